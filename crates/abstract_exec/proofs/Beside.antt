@@ -21,17 +21,20 @@ use Rattle.worklist_rules.specs.Positions.{ranks_and_turns, header_rank, positio
 use Rattle.worklist_rules.specs.PositionLaws.{same_turns, turn_found, position_beside}
 
 -- past a scope that the node does not head, only those further out are ahead
-pub passes : (o : Shape) (node s p t : ℕ) → (header_of o.scopes s ≡ node → ⊥) → parent_of o.scopes s ≡ Some p → LeadsTo o.scopes t s → (is_header o t node ≡ false) ⊎ LeadsTo o.scopes t p
+pub passes : (o : Shape) (node s p t : ℕ) → (header_of o.scopes s ≡ node → ⊥) → parent_of o.scopes s ≡ Some p
+    → LeadsTo o.scopes t s → (is_header o t node ≡ false) ⊎ LeadsTo o.scopes t p
 passes o node s p t other is here = inl (ne_eqb (header_of o.scopes t) node other)
 passes o node s p t other is (up {s = x} {p = q} e way) = let same : q ≡ p = (let both : Some q ≡ Some p = sym e ∙ is in cc) in inr (subst (λ (x : ℕ). LeadsTo o.scopes t x) same way)
 
 -- and past the outermost none is
-pub outermost_passed : (o : Shape) (node s t : ℕ) → (header_of o.scopes s ≡ node → ⊥) → parent_of o.scopes s ≡ None → LeadsTo o.scopes t s → is_header o t node ≡ false
+pub outermost_passed : (o : Shape) (node s t : ℕ) → (header_of o.scopes s ≡ node → ⊥) → parent_of o.scopes s ≡ None
+    → LeadsTo o.scopes t s → is_header o t node ≡ false
 outermost_passed o node s t other is here = ne_eqb (header_of o.scopes t) node other
 outermost_passed o node s t other is (up {s = x} {p = q} e way) = absurd (let both : Some q ≡ None = sym e ∙ is in cc)
 
 -- the scopes of a chain lie around its first one
-further_out : (scopes : List ScopeRow) (k : ℕ) (q : Option ℕ) (t : ℕ) → ((p : ℕ) → Contains (scopes_from scopes k p) t → LeadsTo scopes t p)
+further_out : (scopes : List ScopeRow) (k : ℕ) (q : Option ℕ) (t : ℕ)
+    → ((p : ℕ) → Contains (scopes_from scopes k p) t → LeadsTo scopes t p)
     → Contains (option_map_or (λ p. scopes_from scopes k p) q []) t → (p : ℕ) × (q ≡ Some p) × LeadsTo scopes t p
 further_out scopes k None t leads there = no_member t there
 further_out scopes k (Some p) t leads there = (p, refl, leads p there)
@@ -44,24 +47,29 @@ on_chain scopes (suc k) s t there =
     (λ further. let out = further_out scopes k (parent_of scopes s) t (λ p. on_chain scopes k p t) further in up out.1 out.2)
 
 -- the scopes around a node: those around its own one, and this one
-own_last : (scopes : List ScopeRow) (k s : ℕ) → s < k → (front : List ℕ) × (reverse (scopes_from scopes k s) ≡ front ++ s ∷ []) × ((t : ℕ) → Contains front t → (p : ℕ) × (parent_of scopes s ≡ Some p) × LeadsTo scopes t p)
+own_last : (scopes : List ScopeRow) (k s : ℕ) → s < k
+    → (front : List ℕ) × (reverse (scopes_from scopes k s) ≡ front ++ s ∷ [])
+    × ((t : ℕ) → Contains front t → (p : ℕ) × (parent_of scopes s ≡ Some p) × LeadsTo scopes t p)
 own_last scopes zero s low = absurd (omega arith)
 own_last scopes (suc k) s low =
     let rest : List ℕ = option_map_or (λ p. scopes_from scopes k p) (parent_of scopes s) [] in
     (reverse rest, reverse-append (s ∷ []) rest, λ t there. further_out scopes k (parent_of scopes s) t (λ p. on_chain scopes k p t) (of_reverse rest t there))
 
-turns_more : (o : Shape) (turn : ℕ → ℕ) (front : List ℕ) (s : ℕ) → ranks_and_turns o turn (front ++ s ∷ []) ≡ ranks_and_turns o turn front ++ header_rank o s ∷ turn s ∷ []
+turns_more : (o : Shape) (turn : ℕ → ℕ) (front : List ℕ) (s : ℕ)
+    → ranks_and_turns o turn (front ++ s ∷ []) ≡ ranks_and_turns o turn front ++ header_rank o s ∷ turn s ∷ []
 turns_more o turn [] s = refl
 turns_more o turn (t ∷ front) s = ap (λ (xs : List ℕ). header_rank o t ∷ turn t ∷ xs) (turns_more o turn front s)
 
 -- what is left without the last
-pub popped : (front items left : List ℕ) (last : ℕ) → items ≡ front ++ last ∷ [] → left ≡ take (length items - 1) items → left ≡ front
+pub popped : (front items left : List ℕ) (last : ℕ) → items ≡ front ++ last ∷ [] → left ≡ take (length items - 1) items
+    → left ≡ front
 popped front items left last is rest =
     let long : length items - 1 ≡ length front = (let e : length items ≡ length (front ++ last ∷ []) = ap (λ (xs : List ℕ). length xs) is in let f = length-append front (last ∷ []) in omega arith) in
     rest ∙ ap (λ (n : ℕ). take n items) long ∙ ap (λ (xs : List ℕ). take (length front) xs) is ∙ take-append-le (length front) front (last ∷ []) (omega arith) ∙ take_all (length front) front (omega arith)
 
 -- the last two of a list
-pub last_two : (front others : List ℕ) (a b x y : ℕ) → front ++ a ∷ b ∷ [] ≡ others ++ x ∷ y ∷ [] → (front ≡ others) × (a ≡ x)
+pub last_two : (front others : List ℕ) (a b x y : ℕ) → front ++ a ∷ b ∷ [] ≡ others ++ x ∷ y ∷ []
+    → (front ≡ others) × (a ≡ x)
 last_two front others a b x y same =
     let both = same_from_push (front ++ a ∷ []) (others ++ x ∷ []) b y (append_assoc front (a ∷ []) (b ∷ []) ∙ same ∙ sym (append_assoc others (x ∷ []) (y ∷ []))) in
     same_from_push front others a x both.0
@@ -78,7 +86,8 @@ module _ (o : Shape) (ok : IsOutline o) (n k : ℕ) (turn : ℕ → ℕ) (low : 
   abbrev s : ℕ
   s = slice_index o.own k
 
-  pub last : (front : List ℕ) × (scopes_around o k ≡ front ++ s ∷ []) × ((t : ℕ) → Contains front t → (p : ℕ) × (parent_of o.scopes s ≡ Some p) × LeadsTo o.scopes t p)
+  pub last : (front : List ℕ) × (scopes_around o k ≡ front ++ s ∷ [])
+      × ((t : ℕ) → Contains front t → (p : ℕ) × (parent_of o.scopes s ≡ Some p) × LeadsTo o.scopes t p)
   last = own_last o.scopes (length o.scopes) s (ok.scopes_within k low)
 
   -- the position at the end of the edge, whose own scope has this number
@@ -102,7 +111,8 @@ module _ (o : Shape) (ok : IsOutline o) (n k : ℕ) (turn : ℕ → ℕ) (low : 
       ∙ sym (append_assoc (ranks_and_turns o turn last.0) (header_rank o s ∷ []) (turn s ∷ slice_index o.ranks n ∷ []))
 
   -- the number of the own scope is not too great
-  pub number_low : (limit : ℕ) → ((t : ℕ) → turn_in (scopes_around o n) (position_by o turn n) t < limit) → turn s < limit
+  pub number_low : (limit : ℕ) → ((t : ℕ) → turn_in (scopes_around o n) (position_by o turn n) t < limit)
+      → turn s < limit
   number_low limit low_turns =
       let there = subst (λ (xs : List ℕ). Contains xs s) (sym (same ∙ last.1)) (Contains-append_right last.0 (s ∷ []) s (first_member s [])) in
       let found = turn_found o turn (scopes_around o n) (slice_index o.ranks n ∷ []) s there in

@@ -63,13 +63,15 @@ at_end keys i last j is = let later = is.later in let within = is.within in omeg
 
 module _ {T R : Type 0} where
   -- the key at a place is the position there
-  pub key_at_spot : (spots : List (Spot T R)) (i : ℕ) (spot : Spot T R) → slice_get spots i ≡ Some spot → key_at (positions_of spots) i ≡ spot.position
+  pub key_at_spot : (spots : List (Spot T R)) (i : ℕ) (spot : Spot T R) → slice_get spots i ≡ Some spot
+      → key_at (positions_of spots) i ≡ spot.position
   key_at_spot spots i spot at =
       get_or-map (λ (s : Spot T R). s.position) spots i spot [] (slice_get_within spots i spot at)
       ∙ ap (λ (s : Spot T R). s.position) (get_or_from_slice_get spots i spot spot at)
 
   -- the keys from a place on
-  pub keys_on : (spots : List (Spot T R)) (i : ℕ) → map (λ (s : Spot T R). s.position) (drop i spots) ≡ drop i (positions_of spots)
+  pub keys_on : (spots : List (Spot T R)) (i : ℕ)
+      → map (λ (s : Spot T R). s.position) (drop i spots) ≡ drop i (positions_of spots)
   keys_on spots i = sym (drop-map (λ (s : Spot T R). s.position) i spots)
 
   pub few_keys : (spots : List (Spot T R)) → length (positions_of spots) ≡ length spots
@@ -112,12 +114,14 @@ module _ {T R : Type 0} where
     next_missing apart = next_none (positions_of spots) i f least next_keys (λ e. false≢true (sym apart ∙ is_told.1 (sym key_one ∙ sym e ∙ key_other)))
 
   -- there is none after the last place
-  pub none_after : (spots : List (Spot T R)) (i : ℕ) → length spots - i ≡ 1 → (j : ℕ) → IsNextSame (positions_of spots) i j → ⊥
+  pub none_after : (spots : List (Spot T R)) (i : ℕ) → length spots - i ≡ 1 → (j : ℕ)
+      → IsNextSame (positions_of spots) i j → ⊥
   none_after spots i last = at_end (positions_of spots) i (let few = few_keys spots in omega arith)
 
   module _ (spots : List (Spot T R)) (points : List Bool) (i : ℕ) (spot : Spot T R) (least : IsFirstLeast (positions_of spots) i) (at : slice_get spots i ≡ Some spot) (node : spot.node < length points) where
     -- at no merge point the place is stepped
-    pub chosen_step : get_or points spot.node false ≡ false → (o : Shape) (policy : Policy) → AreMergePoints o policy points → IsChoice o policy spots (Step i)
+    pub chosen_step : get_or points spot.node false ≡ false → (o : Shape) (policy : Policy)
+        → AreMergePoints o policy points → IsChoice o policy spots (Step i)
     chosen_step off o policy are =
         steps spot least at (λ point j next.
         let one_each = are.one_each in
@@ -125,11 +129,13 @@ module _ {T R : Type 0} where
         absurd (false≢true (sym off ∙ on)))
 
     -- nor is it merged where no other has its position
-    pub chosen_alone : ((j : ℕ) → IsNextSame (positions_of spots) i j → ⊥) → (o : Shape) (policy : Policy) → AreMergePoints o policy points → IsChoice o policy spots (Step i)
+    pub chosen_alone : ((j : ℕ) → IsNextSame (positions_of spots) i j → ⊥) → (o : Shape) (policy : Policy)
+        → AreMergePoints o policy points → IsChoice o policy spots (Step i)
     chosen_alone none o policy are = steps spot least at (λ point j next. none j next)
 
     -- else it is merged with the next one
-    pub chosen_merge : (j : ℕ) → get_or points spot.node false ≡ true → IsNextSame (positions_of spots) i j → (o : Shape) (policy : Policy) → AreMergePoints o policy points → IsChoice o policy spots (Merge i j)
+    pub chosen_merge : (j : ℕ) → get_or points spot.node false ≡ true → IsNextSame (positions_of spots) i j
+        → (o : Shape) (policy : Policy) → AreMergePoints o policy points → IsChoice o policy spots (Merge i j)
     chosen_merge j on next o policy are =
         let one_each = are.one_each in
         merges spot least at ((are.told spot.node (omega arith)).0 on) next

@@ -10,7 +10,8 @@ use Rattle.worklist_rules.specs.Events.{met}
 use Rattle.worklist_rules.specs.Pools.{Spot}
 
 -- an element before the one that is taken out stays
-pub earlier_stays : {X : Type 0} (xs : List X) (i j : ℕ) → i < j → slice_get (take j xs ++ drop (suc j) xs) i ≡ slice_get xs i
+pub earlier_stays : {X : Type 0} (xs : List X) (i j : ℕ) → i < j
+    → slice_get (take j xs ++ drop (suc j) xs) i ≡ slice_get xs i
 earlier_stays [] zero zero low = refl
 earlier_stays [] (suc i) zero low = refl
 earlier_stays [] zero (suc j) low = refl
@@ -25,7 +26,8 @@ abbrev pub put_in : {X : Type 0} → List X → ℕ → X → List X
 put_in xs i y = take i xs ++ y ∷ drop i xs
 
 -- the join stands in the room of the first
-pub joined_in : {X : Type 0} (xs : List X) (i j : ℕ) (a y : X) → i < j → slice_get xs i ≡ Some a → put_in (remove (remove xs j) i) i y ≡ remove (slice_set xs i y) j
+pub joined_in : {X : Type 0} (xs : List X) (i j : ℕ) (a y : X) → i < j → slice_get xs i ≡ Some a
+    → put_in (remove (remove xs j) i) i y ≡ remove (slice_set xs i y) j
 joined_in [] i j a y low at = absurd (none-some a at)
 joined_in (x ∷ xs) zero zero a y low at = absurd (omega arith)
 joined_in (x ∷ xs) zero (suc j) a y low at = refl

@@ -53,14 +53,16 @@ on_ok_first (Ok x) P Q both = both.0
 on_ok_first (Err fault) P Q both = tt
 
 -- a merge leaves one place less
-pub merged_fewer : {X : Type 0} (xs : List X) (i j : ℕ) (x y : X) → slice_get xs j ≡ Some y → length (remove (slice_set xs i x) j) + 1 ≡ length xs
+pub merged_fewer : {X : Type 0} (xs : List X) (i j : ℕ) (x y : X) → slice_get xs j ≡ Some y
+    → length (remove (slice_set xs i x) j) + 1 ≡ length xs
 merged_fewer xs i j x y at =
     let low = slice_get_within xs j y at in
     let same = length-set xs i x in
     length-remove (slice_set xs i x) j (omega arith) ∙ same
 
 -- the key at a place is the position there
-key_at_spot : {T R : Type 0} (spots : List (Spot T R)) (i : ℕ) (spot : Spot T R) → slice_get spots i ≡ Some spot → key_at (positions_of spots) i ≡ spot.position
+key_at_spot : {T R : Type 0} (spots : List (Spot T R)) (i : ℕ) (spot : Spot T R) → slice_get spots i ≡ Some spot
+    → key_at (positions_of spots) i ≡ spot.position
 key_at_spot {T = T} {R = R} spots i spot at =
     get_or-map (λ (s : Spot T R). s.position) spots i spot [] (slice_get_within spots i spot at)
     ∙ ap (λ (s : Spot T R). s.position) (get_or_from_slice_get spots i spot spot at)
@@ -90,7 +92,9 @@ module _ {S T C R B : Type 0} (machine : S → Machine T C) (states : Order T) (
   left_to_do turns w = (turns - w.steps) * 2 ^ 32 + length w.spots
 
   -- each event leaves less
-  pub turn_less : (turns : ℕ) (old new : Pooled S T R B) (event : Event) → Happens machine states recorders z old event new → length new.spots < 2 ^ 32 → old.steps < turns → left_to_do turns new < left_to_do turns old
+  pub turn_less : (turns : ℕ) (old new : Pooled S T R B) (event : Event)
+      → Happens machine states recorders z old event new → length new.spots < 2 ^ 32 → old.steps < turns
+      → left_to_do turns new < left_to_do turns old
   turn_less turns old new (Step i) (spot, found, is) few low =
       let e : new.steps ≡ old.steps + 1 = ap (λ (w : Pooled S T R B). w.steps) is in
       omega arith
@@ -101,7 +105,8 @@ module _ {S T C R B : Type 0} (machine : S → Machine T C) (states : Order T) (
       omega arith
 
   -- and not more steps than turns
-  pub turn_steps : (turns : ℕ) (old new : Pooled S T R B) (event : Event) → Happens machine states recorders z old event new → old.steps < turns → new.steps ≤ turns
+  pub turn_steps : (turns : ℕ) (old new : Pooled S T R B) (event : Event)
+      → Happens machine states recorders z old event new → old.steps < turns → new.steps ≤ turns
   turn_steps turns old new (Step i) (spot, found, is) low =
       let e : new.steps ≡ old.steps + 1 = ap (λ (w : Pooled S T R B). w.steps) is in
       omega arith
@@ -110,16 +115,19 @@ module _ {S T C R B : Type 0} (machine : S → Machine T C) (states : Order T) (
       omega arith
 
   -- a pool at its start has what every pool keeps
-  pub pool_opened : (stepper : S) (o : Outlined) → IsMachine T C states (machine stepper) → IsRecording R B recorders z → (machine stepper).kept → IsSuited z o → IsAlong T C (shape_of o) (machine stepper)
+  pub pool_opened : (stepper : S) (o : Outlined) → IsMachine T C states (machine stepper) → IsRecording R B recorders z
+      → (machine stepper).kept → IsSuited z o → IsAlong T C (shape_of o) (machine stepper)
       → IsPool machine z (opened machine z stepper o)
   pool_opened stepper o machine_laws laws kept suited along = record { kept = start_kept machine states recorders z stepper o machine_laws laws kept suited along; few = omega arith }
 
   -- a place that is stepped meets the conditions
-  pub placed_at : (w : Pooled S T R B) (i : ℕ) (spot : Spot T R) → IsKept machine z w → w.steps < 2 ^ 32 - 2 → slice_get w.spots i ≡ Some spot → IsPlaced w.outline (machine w.stepper) z (2 ^ 32 - 3) spot
+  pub placed_at : (w : Pooled S T R B) (i : ℕ) (spot : Spot T R) → IsKept machine z w → w.steps < 2 ^ 32 - 2
+      → slice_get w.spots i ≡ Some spot → IsPlaced w.outline (machine w.stepper) z (2 ^ 32 - 3) spot
   placed_at w i spot kept room found = placed_later w.outline (machine w.stepper) z w.steps (2 ^ 32 - 3) spot (omega arith) (kept.placed spot (contained w.spots i spot found))
 
   -- places that may be merged may be joined
-  pub alike_all : (w : Pooled S T R B) (i j : ℕ) → IsMachine T C states (machine w.stepper) → IsRecording R B recorders z → IsKept machine z w
+  pub alike_all : (w : Pooled S T R B) (i j : ℕ) → IsMachine T C states (machine w.stepper)
+      → IsRecording R B recorders z → IsKept machine z w
       → ((a b : Spot T R) × (i < j) × (slice_get w.spots i ≡ Some a) × (slice_get w.spots j ≡ Some b) × (a.position ≡ b.position))
       → (a b : Spot T R) → slice_get w.spots i ≡ Some a → slice_get w.spots j ≡ Some b → states.alike a.state b.state × recorders.alike a.recorder b.recorder
   alike_all w i j machine_laws laws kept (c, d, before, at_c, at_d, same) a b at_a at_b =
@@ -128,20 +136,24 @@ module _ {S T C R B : Type 0} (machine : S → Machine T C) (states : Order T) (
       alike_at machine states recorders z w i j a b machine_laws laws kept at_a at_b (ap (λ (s : Spot T R). s.position) first ∙ same ∙ ap (λ (s : Spot T R). s.position) (sym second))
 
   -- what every pool keeps, after an event that leaves few places
-  pub pool_kept : (old new : Pooled S T R B) (event : Event) → IsOrder T states → IsMachine T C states (machine old.stepper) → IsOrder R recorders → IsRecording R B recorders z
+  pub pool_kept : (old new : Pooled S T R B) (event : Event) → IsOrder T states
+      → IsMachine T C states (machine old.stepper) → IsOrder R recorders → IsRecording R B recorders z
       → IsPool machine z old → Happens machine states recorders z old event new → length new.spots < 2 ^ 32 → IsPool machine z new
   pool_kept old new event states_laws machine_laws recorders_laws laws pool happens few =
       record { kept = event_kept machine states recorders z old new event states_laws machine_laws recorders_laws laws pool.kept happens; few = few }
 
   -- a merge leaves few places
-  pub merge_few : (old new : Pooled S T R B) (i j : ℕ) → Happens machine states recorders z old (Merge i j) new → length old.spots < 2 ^ 32 → length new.spots < 2 ^ 32
+  pub merge_few : (old new : Pooled S T R B) (i j : ℕ) → Happens machine states recorders z old (Merge i j) new
+      → length old.spots < 2 ^ 32 → length new.spots < 2 ^ 32
   merge_few old new i j (a, b, before, first, second, same, is) few =
       let less = merged_fewer old.spots i j (met states recorders a b) b second in
       let f : length new.spots ≡ length (remove (slice_set old.spots i (met states recorders a b)) j) = ap (λ (w : Pooled S T R B). length w.spots) is in
       omega arith
 
   -- the policy's choice is allowed
-  pub can_happen : (policy : Policy) (w : Pooled S T R B) (event : Event) → IsChoice (shape_of w.outline) policy w.spots event → (new : Pooled S T R B) × Happens machine states recorders z w event new
+  pub can_happen : (policy : Policy) (w : Pooled S T R B) (event : Event)
+      → IsChoice (shape_of w.outline) policy w.spots event
+      → (new : Pooled S T R B) × Happens machine states recorders z w event new
   can_happen policy w event (steps {i = i} spot least found none) = (stepped_at machine z w i spot, (spot, found, refl))
   can_happen policy w event (merges {i = i} {j = j} spot least found point next) =
       let within : j < length w.spots = (let low = next.within in let long = length-map w.spots (λ (s : Spot T R). s.position) in omega arith) in
@@ -151,7 +163,9 @@ module _ {S T C R B : Type 0} (machine : S → Machine T C) (states : Order T) (
 
   module _ (policy : Policy) (turns : ℕ) where
     -- the run is that of the policy
-    pub finished : (events : List Event) (old w : Pooled S T R B) (explored : Explored) → IsPolicyStart machine states recorders z policy turns old events w → w.steps ≤ turns → (0 < length w.spots → w.steps < turns → ⊥)
+    pub finished : (events : List Event) (old w : Pooled S T R B) (explored : Explored)
+        → IsPolicyStart machine states recorders z policy turns old events w → w.steps ≤ turns
+        → (0 < length w.spots → w.steps < turns → ⊥)
         → IsEnded w events explored → IsExplored machine states recorders z policy turns old w explored
     finished events old w (Closed told) start low over (is, none) =
         (subst (λ (es : List Event). IsPolicyRun machine states recorders z policy turns old es w) (sym is) (start_done machine states recorders z policy turns events old w start (inl none)), none)
@@ -162,12 +176,14 @@ module _ {S T C R B : Type 0} (machine : S → Machine T C) (states : Order T) (
 
 -- ---- the parts of a pool
 
-alarm_there : (alarms : List FaultSet) (n : ℕ) (told : FaultSet) → n < length alarms → told ≡ get_or alarms n told → told ≡ alarm_at alarms n
+alarm_there : (alarms : List FaultSet) (n : ℕ) (told : FaultSet) → n < length alarms → told ≡ get_or alarms n told
+    → told ≡ alarm_at alarms n
 alarm_there [] n told low is = absurd (omega arith)
 alarm_there (f ∷ alarms) zero told low is = is
 alarm_there (f ∷ alarms) (suc n) told low is = alarm_there alarms n told (omega arith) is
 
-scope_at : (rows : List NodeRow) (n : ℕ) (row : NodeRow) → slice_get rows n ≡ Some row → row.scope ≡ slice_index (map (λ (r : NodeRow). r.scope) rows) n
+scope_at : (rows : List NodeRow) (n : ℕ) (row : NodeRow) → slice_get rows n ≡ Some row
+    → row.scope ≡ slice_index (map (λ (r : NodeRow). r.scope) rows) n
 scope_at [] n row is = absurd cc
 scope_at (r ∷ rows) zero row is = ap (λ (q : NodeRow). q.scope) (sym (same_Some r row is))
 scope_at (r ∷ rows) (suc n) row is = scope_at rows n row is
@@ -177,19 +193,22 @@ module _ {S T C R B : Type 0} (machine : S → Machine T C) (states : Order T) (
   kept_in pool = subst (IsPool machine z) (sym e) pool
 
   -- a place stands at a node that has its faults and its flag
-  pub node_in : (i : ℕ) (spot : Spot T R) → IsPool machine z u → slice_get w.spots i ≡ Some spot → (spot.node < length w.alarms) × (spot.node < length w.stepped) × (spot.node < length w.outline.nodes)
+  pub node_in : (i : ℕ) (spot : Spot T R) → IsPool machine z u → slice_get w.spots i ≡ Some spot
+      → (spot.node < length w.alarms) × (spot.node < length w.stepped) × (spot.node < length w.outline.nodes)
   node_in i spot pool found =
       let kept = (kept_in pool).kept in
       let placed = kept.placed spot (contained w.spots i spot found) in
       (omega (arith, placed.in_range, kept.told), omega (arith, placed.in_range, kept.flags), placed.in_range)
 
-  pub placed_in : (i : ℕ) (spot : Spot T R) → IsPool machine z u → u.steps < 2 ^ 32 - 2 → slice_get w.spots i ≡ Some spot → IsPlaced w.outline (machine w.stepper) z (2 ^ 32 - 3) spot
+  pub placed_in : (i : ℕ) (spot : Spot T R) → IsPool machine z u → u.steps < 2 ^ 32 - 2
+      → slice_get w.spots i ≡ Some spot → IsPlaced w.outline (machine w.stepper) z (2 ^ 32 - 3) spot
   placed_in i spot pool room found =
       let low : w.steps < 2 ^ 32 - 2 = subst (λ (v : Pooled S T R B). v.steps < 2 ^ 32 - 2) (sym e) room in
       placed_at machine states recorders z w i spot (kept_in pool).kept low found
 
   -- a step happens
-  pub step_happens : (i node : ℕ) (faults old told : FaultSet) (spots : List (Spot T R)) (book : B) → IsPool machine z u → i < length w.spots
+  pub step_happens : (i node : ℕ) (faults old told : FaultSet) (spots : List (Spot T R)) (book : B) → IsPool machine z u
+      → i < length w.spots
       → ((spot : Spot T R) → slice_get w.spots i ≡ Some spot → (node ≡ spot.node) × (faults ≡ (machine w.stepper).faults spot.node spot.state))
       → ((spot : Spot T R) → slice_get w.spots i ≡ Some spot → spots ≡ (stepped_at machine z w i spot).spots)
       → ((spot : Spot T R) → slice_get w.spots i ≡ Some spot → book ≡ (stepped_at machine z w i spot).book)
@@ -226,13 +245,15 @@ module _ {S T C R B : Type 0} (machine : S → Machine T C) (states : Order T) (
       none (a, b, before, first, second, same)
 
   -- the first place stands in this scope
-  pub left_in : (n : ℕ) (spot : Spot T R) (row : NodeRow) → slice_get w.spots 0 ≡ Some spot → n ≡ spot.node → slice_get w.outline.nodes n ≡ Some row → IsLeftIn u row.scope
+  pub left_in : (n : ℕ) (spot : Spot T R) (row : NodeRow) → slice_get w.spots 0 ≡ Some spot → n ≡ spot.node
+      → slice_get w.outline.nodes n ≡ Some row → IsLeftIn u row.scope
   left_in n spot row found same there =
       let own : row.scope ≡ slice_index (shape_of w.outline).own spot.node = scope_at w.outline.nodes n row there ∙ ap (λ (m : ℕ). slice_index (shape_of w.outline).own m) same in
       subst (λ (v : Pooled S T R B). IsLeftIn v row.scope) e (spot, found, own)
 
   -- each place has a flag of merge points
-  pub flag_there : (policy : Policy) (flags : List Bool) (spot : Spot T R) → IsPool machine z u → AreMergePoints (shape_of u.outline) policy flags → Contains w.spots spot → spot.node < length flags
+  pub flag_there : (policy : Policy) (flags : List Bool) (spot : Spot T R) → IsPool machine z u
+      → AreMergePoints (shape_of u.outline) policy flags → Contains w.spots spot → spot.node < length flags
   flag_there policy flags spot pool points there =
       let here = subst (λ (v : Pooled S T R B). AreMergePoints (shape_of v.outline) policy flags) (sym e) points in
       let placed = (kept_in pool).kept.placed spot there in
@@ -241,11 +262,15 @@ module _ {S T C R B : Type 0} (machine : S → Machine T C) (states : Order T) (
 
 module _ {S T C R B : Type 0} (machine : S → Machine T C) (states : Order T) (recorders : Order R) (z : Recording R B) where
   -- the policy's choice is no bad event
-  pub is_allowed : (policy : Policy) (w : Pooled S T R B) (event : Event) → IsChoice (shape_of w.outline) policy w.spots event → ((v : Pooled S T R B) → Happens machine states recorders z w event v → ⊥) → ⊥
+  pub is_allowed : (policy : Policy) (w : Pooled S T R B) (event : Event)
+      → IsChoice (shape_of w.outline) policy w.spots event
+      → ((v : Pooled S T R B) → Happens machine states recorders z w event v → ⊥) → ⊥
   is_allowed policy w event choice none = let can = can_happen machine states recorders z policy w event choice in none can.0 can.1
 
 -- what the turns of an exploration keep
-pub record Explores {S T C R B : Type 0} (machine : S → Machine T C) (states : Order T) (recorders : Order R) (z : Recording R B) (policy : Policy) (turns : ℕ) (flags : List Bool) (old : Pooled S T R B) (events : List Event) (w : Pooled S T R B) : Type 0 where
+pub record Explores {S T C R B : Type 0} (machine : S → Machine T C) (states : Order T) (recorders : Order R)
+    (z : Recording R B) (policy : Policy) (turns : ℕ) (flags : List Bool) (old : Pooled S T R B) (events : List Event)
+    (w : Pooled S T R B) : Type 0 where
   pub kept : IsPool machine z w
   pub later : IsLater turns old w
   pub points : AreMergePoints (shape_of w.outline) policy flags
@@ -253,7 +278,9 @@ pub record Explores {S T C R B : Type 0} (machine : S → Machine T C) (states :
 
 module _ {S T C R B : Type 0} (machine : S → Machine T C) (states : Order T) (recorders : Order R) (z : Recording R B) (policy : Policy) (turns : ℕ) (flags : List Bool) (old : Pooled S T R B) where
   -- after one turn more
-  pub one_more : (events : List Event) (w new : Pooled S T R B) (event : Event) → Explores machine states recorders z policy turns flags old events w → w.steps < turns → IsChoice (shape_of w.outline) policy w.spots event
+  pub one_more : (events : List Event) (w new : Pooled S T R B) (event : Event)
+      → Explores machine states recorders z policy turns flags old events w → w.steps < turns
+      → IsChoice (shape_of w.outline) policy w.spots event
       → Happens machine states recorders z w event new → IsPool machine z new → Explores machine states recorders z policy turns flags old (events ++ event ∷ []) new
   one_more events w new event so_far low choice happens kept =
       let on = event_one_on machine states recorders z w new event happens in

@@ -10,7 +10,8 @@ use Rattle.domain_core.specs.Machines.{Machine, IsAlong}
 use Rattle.worklist_rules.specs.Successors.{AreAlong}
 
 -- successors go along edges
-pub next_are_along : {T C : Type 0} (o : Outlined) (m : Machine T C) → IsOutline (shape_of o) → IsAlong T C (shape_of o) m → (n : ℕ) (t : T) → m.fits n t → AreAlong o n (m.next n t)
+pub next_are_along : {T C : Type 0} (o : Outlined) (m : Machine T C) → IsOutline (shape_of o)
+    → IsAlong T C (shape_of o) m → (n : ℕ) (t : T) → m.fits n t → AreAlong o n (m.next n t)
 next_are_along o m ok along n t fits = λ s has node.
     let edge = along.next_along n s.0 t s.1 fits has in
     let most = (ok.edges_within n s.0 edge).1 in
@@ -18,7 +19,9 @@ next_are_along o m ok along n t fits = λ s has node.
     (edge, elim (cases_lt s.0 (length o.nodes)) [ inl low ↦ low | inr high ↦ absurd (node (omega arith)) ])
 
 -- room for few elements leaves few
-pub few_after : {X : Type 0} (line after made : List X) (at : ℕ) → at ≤ length line → after ≡ take at line ++ (made ++ drop at line) → length made ≤ 2 ^ 32 - 1 - length line → length line < 2 ^ 32 → length after < 2 ^ 32
+pub few_after : {X : Type 0} (line after made : List X) (at : ℕ) → at ≤ length line
+    → after ≡ take at line ++ (made ++ drop at line) → length made ≤ 2 ^ 32 - 1 - length line → length line < 2 ^ 32
+    → length after < 2 ^ 32
 few_after line after made at low is few room =
     let whole : length after ≡ length (take at line) + length (made ++ drop at line) = ap length is ∙ length-append (take at line) (made ++ drop at line) in
     let back = length-append made (drop at line) in

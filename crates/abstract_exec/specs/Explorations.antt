@@ -19,7 +19,8 @@ use Rattle.abstract_exec.specs.declared.explored.Explored.{Explored}
 use Rattle.abstract_exec.specs.declared.explored.Explored.TheVariants.{Closed, Left}
 
 -- what every pool keeps, and how many places it has at most
-pub record IsPool {S T C R B : Type 0} (machine : S → Machine T C) (z : Recording R B) (w : Pooled S T R B) : Type 0 where
+pub record IsPool {S T C R B : Type 0} (machine : S → Machine T C) (z : Recording R B)
+    (w : Pooled S T R B) : Type 0 where
   pub kept : IsKept machine z w
   pub few : length w.spots < 2 ^ 32
 
@@ -39,6 +40,7 @@ IsEnded w events (Closed told) = (told.items ≡ events) × (w.spots ≡ [])
 IsEnded w events (Left scope) = IsLeftIn w scope
 
 -- the policy's run led from the old pool to the new one, and this tells how it ended
-abbrev pub IsExplored : {S T C R B : Type 0} → (S → Machine T C) → Order T → Order R → Recording R B → Policy → ℕ → Pooled S T R B → Pooled S T R B → Explored → Type 0
+abbrev pub IsExplored : {S T C R B : Type 0} → (S → Machine T C) → Order T → Order R → Recording R B → Policy → ℕ
+    → Pooled S T R B → Pooled S T R B → Explored → Type 0
 IsExplored machine states recorders z policy turns old new (Closed events) = IsPolicyRun machine states recorders z policy turns old events.items new × (new.spots ≡ [])
 IsExplored machine states recorders z policy turns old new (Left scope) = (events : List Event) × IsPolicyRun machine states recorders z policy turns old events new × IsLeftIn new scope

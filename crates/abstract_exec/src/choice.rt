@@ -46,7 +46,9 @@ pub fn next_event<T: Drop, R: Drop>(
     requires few { length places.old < 2 ^ 32 }
     requires nodes { (spot : Spot T R) → Contains places.old spot → spot.node < length points.now }
     ensures same { OnOk result (places.new ≡ places.old) }
-    ensures choice { IfOk result (λ event. (o : Shape) (policy : Policy) → AreMergePoints o policy points.now → IsChoice o policy places.old event) }
+    ensures choice { IfOk result
+        (λ event. (o : Shape) (policy : Policy) → AreMergePoints o policy points.now
+        → IsChoice o policy places.old event) }
 {
     let first = places.first_least();
     if !points[places.at(first).node as usize] {

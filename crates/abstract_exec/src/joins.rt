@@ -13,14 +13,17 @@ use worklist::Line;
 pub fn is_same_position<T: Drop, R: Drop>(places: &Line<Place<T, R>>, i: usize, j: usize) -> bool
     requires first { i < length places.now }
     requires second { j < length places.now }
-    ensures { (a b : Spot T R) → slice_get places.now i ≡ Some a → slice_get places.now j ≡ Some b → IsTrue result ↔ (a.position ≡ b.position) }
+    ensures { (a b : Spot T R) → slice_get places.now i ≡ Some a → slice_get places.now j ≡ Some b
+        → IsTrue result ↔ (a.position ≡ b.position) }
 {
     places.at(i).position.as_slice() == places.at(j).position.as_slice()
 }
 
 /// Whether two places of a line, the first before the second, have one position.
 pub fn are_one_position<T: Drop, R: Drop>(places: &Line<Place<T, R>>, i: usize, j: usize) -> bool
-    ensures { IsTrue result ↔ ((a b : Spot T R) × (i < j) × (slice_get places.now i ≡ Some a) × (slice_get places.now j ≡ Some b) × (a.position ≡ b.position)) }
+    ensures { IsTrue result
+        ↔ ((a b : Spot T R) × (i < j) × (slice_get places.now i ≡ Some a) × (slice_get places.now j ≡ Some b)
+        × (a.position ≡ b.position)) }
 {
     if i >= j || j >= places.len() {
         return false;
@@ -57,8 +60,11 @@ pub fn merge_places<T: Lattice + Drop, R: Recorder>(
 ) -> Result<(), AllocError>
     requires before { i < j }
     requires within { j < length places.old }
-    requires alike { (a b : Spot T R) → slice_get places.old i ≡ Some a → slice_get places.old j ≡ Some b → T.order.alike a.state b.state × R.order.alike a.recorder b.recorder }
-    ensures { OnOk result ((a b : Spot T R) → slice_get places.old i ≡ Some a → slice_get places.old j ≡ Some b → places.new ≡ remove (slice_set places.old i (met T.order R.order a b)) j) }
+    requires alike { (a b : Spot T R) → slice_get places.old i ≡ Some a → slice_get places.old j ≡ Some b
+        → T.order.alike a.state b.state × R.order.alike a.recorder b.recorder }
+    ensures { OnOk result
+        ((a b : Spot T R) → slice_get places.old i ≡ Some a → slice_get places.old j ≡ Some b
+        → places.new ≡ remove (slice_set places.old i (met T.order R.order a b)) j) }
 {
     let second = places.take(j)?;
     let first = places.take(i)?;

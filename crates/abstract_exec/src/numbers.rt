@@ -54,7 +54,8 @@ pub fn number_after(outline: &Outline, node: u32, scope: u32, number: u32) -> u3
 /// Whether the node is the header of none of the scopes from this one outwards.
 fn heads_none(outline: &Outline, scope: u32, node: u32) -> bool
     requires { scope < length outline.now.scopes }
-    ensures { IsTrue result → (t : ℕ) → LeadsTo outline.now.scopes t scope → is_header (shape_of outline.now) t node ≡ false }
+    ensures { IsTrue result → (t : ℕ) → LeadsTo outline.now.scopes t scope
+        → is_header (shape_of outline.now) t node ≡ false }
 {
     outline.kept();
     let mut at = scope;
@@ -74,7 +75,9 @@ fn heads_none(outline: &Outline, scope: u32, node: u32) -> bool
 /// Whether the node is the header of no scope around its own one, so that these keep their numbers when it is entered.
 pub fn keeps_outer_numbers(outline: &Outline, node: u32) -> bool
     requires { node < length outline.now.nodes }
-    ensures { IsTrue result → (t p : ℕ) → parent_of outline.now.scopes (slice_index (shape_of outline.now).own node) ≡ Some p → LeadsTo outline.now.scopes t p → is_header (shape_of outline.now) t node ≡ false }
+    ensures { IsTrue result → (t p : ℕ)
+        → parent_of outline.now.scopes (slice_index (shape_of outline.now).own node) ≡ Some p
+        → LeadsTo outline.now.scopes t p → is_header (shape_of outline.now) t node ≡ false }
 {
     outline.kept();
     match outline.scope(outline.node(node).scope).parent {

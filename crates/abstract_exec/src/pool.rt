@@ -93,7 +93,8 @@ impl<'a, S: Stepper, R: Recorder> Pool<'a, S, R> {
         ensures happens { OnOk result (Happens S.machine S.State.order R.order R.recording self.old event self.new) }
         ensures kept { OnOk result (IsPool S.machine R.recording self.new) }
         ensures going_on { OnOk result (IsOneOn self.old self.new) }
-        ensures bad { result ≡ Err ExecFault.BadEvent → (w : Pooled S S.State R R.Book) → Happens S.machine S.State.order R.order R.recording self.old event w → ⊥ }
+        ensures bad { result ≡ Err ExecFault.BadEvent → (w : Pooled S S.State R R.Book)
+            → Happens S.machine S.State.order R.order R.recording self.old event w → ⊥ }
         ensures unchanged { result ≡ Err ExecFault.BadEvent → self.new ≡ self.old }
     {
         match event {
@@ -106,7 +107,9 @@ impl<'a, S: Stepper, R: Recorder> Pool<'a, S, R> {
     fn step(&mut self, alloc: Global, place: usize) -> Result<(), ExecFault>
         requires kept { IsPool S.machine R.recording self.old }
         requires room { self.old.steps < 2 ^ 32 - 2 }
-        ensures happens { OnOk result (Happens S.machine S.State.order R.order R.recording self.old (Event.Step place) self.new × (length self.new.spots < 2 ^ 32)) }
+        ensures happens { OnOk result
+            (Happens S.machine S.State.order R.order R.recording self.old (Event.Step place) self.new
+            × (length self.new.spots < 2 ^ 32)) }
         ensures bad { result ≡ Err ExecFault.BadEvent → length self.old.spots ≤ place }
         ensures unchanged { result ≡ Err ExecFault.BadEvent → self.new ≡ self.old }
     {
@@ -130,8 +133,10 @@ impl<'a, S: Stepper, R: Recorder> Pool<'a, S, R> {
     /// Joins two places of one position.
     fn merge(&mut self, alloc: Global, i: usize, j: usize) -> Result<(), ExecFault>
         requires kept { IsPool S.machine R.recording self.old }
-        ensures happens { OnOk result (Happens S.machine S.State.order R.order R.recording self.old (Event.Merge i j) self.new) }
-        ensures bad { result ≡ Err ExecFault.BadEvent → (w : Pooled S S.State R R.Book) → Happens S.machine S.State.order R.order R.recording self.old (Event.Merge i j) w → ⊥ }
+        ensures happens { OnOk result
+            (Happens S.machine S.State.order R.order R.recording self.old (Event.Merge i j) self.new) }
+        ensures bad { result ≡ Err ExecFault.BadEvent → (w : Pooled S S.State R R.Book)
+            → Happens S.machine S.State.order R.order R.recording self.old (Event.Merge i j) w → ⊥ }
         ensures unchanged { result ≡ Err ExecFault.BadEvent → self.new ≡ self.old }
     {
         if !are_one_position(&self.places, i, j) {
@@ -151,7 +156,9 @@ impl<'a, S: Stepper, R: Recorder> Pool<'a, S, R> {
         requires kept { IsPool S.machine R.recording self.old }
         requires begun { self.old.steps ≤ turns }
         requires room { turns < 2 ^ 32 - 1 }
-        ensures explored { IfOk result (λ explored. IsExplored S.machine S.State.order R.order R.recording policy turns self.old self.new explored) }
+        ensures explored { IfOk result
+            (λ explored. IsExplored S.machine S.State.order R.order R.recording policy turns self.old self.new
+            explored) }
         ensures kept { OnOk result (IsPool S.machine R.recording self.new) }
         ensures going_on { OnOk result (IsLater turns self.old self.new) }
     {
@@ -171,7 +178,8 @@ impl<'a, S: Stepper, R: Recorder> Pool<'a, S, R> {
         requires some { 0 < length self.old.spots }
         requires points { AreMergePoints (shape_of self.old.outline) policy points.now }
         ensures choice { IfOk result (λ event. IsChoice (shape_of self.old.outline) policy self.old.spots event) }
-        ensures happens { IfOk result (λ event. Happens S.machine S.State.order R.order R.recording self.old event self.new) }
+        ensures happens { IfOk result
+            (λ event. Happens S.machine S.State.order R.order R.recording self.old event self.new) }
         ensures kept { OnOk result (IsPool S.machine R.recording self.new) }
     {
         let event = next_event(&mut self.places, points)?;

@@ -1,9 +1,11 @@
 //! Positions of places.
 
-ghost use Rattle.std.specs.Prelude.{◌≡◌, ◌<◌, ◌+◌, ◌-◌, ◌^◌, ◌++◌, ◌∷◌, [], ℕ, List, IsTrue, false, Some, length, slice_index, IfOk};
+ghost use Rattle.std.specs.Prelude.{◌≡◌, ◌<◌, ◌+◌, ◌-◌, ◌^◌, ◌++◌, ◌∷◌, [], ℕ, List, IsTrue, false, Some, length};
+ghost use Rattle.std.specs.Prelude.{slice_index, IfOk};
 ghost use Rattle.domain_core.specs.Outlines.{LeadsTo, parent_of, shape_of, scopes_around};
 ghost use Rattle.domain_core.specs.Executions.{is_header};
-ghost use Rattle.worklist_rules.specs.Positions.{position_by, position_of, IsPosition, entered, turn_in, moved_position};
+ghost use Rattle.worklist_rules.specs.Positions.{position_by, position_of, IsPosition, entered, turn_in};
+ghost use Rattle.worklist_rules.specs.Positions.{moved_position};
 
 use crate::numbers::{keeps_outer_numbers, number_after, number_in, rank_of_header};
 use crate::place::Position;
@@ -32,7 +34,10 @@ fn position_after(
     requires node { to < length outline.now.nodes }
     requires around { around.now ≡ scopes_around (shape_of outline.now) to }
     requires room { (t : ℕ) → turn_in scopes.now position.now t < 2 ^ 32 - 1 }
-    ensures { IfOk result (λ made. made.items ≡ position_by (shape_of outline.now) (λ t. entered (shape_of outline.now) to t (turn_in scopes.now position.now t)) to) }
+    ensures { IfOk result
+        (λ made. made.items
+        ≡ position_by (shape_of outline.now)
+        (λ t. entered (shape_of outline.now) to t (turn_in scopes.now position.now t)) to) }
 {
     outline.kept();
     let mut made = Position::with_capacity(alloc, 2 * around.len() + 1)?;
@@ -57,7 +62,8 @@ pub fn first_position(alloc: Global, outline: &Outline) -> Result<Position, Allo
 
 /// The position with this rank at its end.
 fn with_rank(position: Position, rank: u32) -> Result<Position, AllocError>
-    ensures { IfOk result (λ made. (front : List ℕ) (last : ℕ) → position.items ≡ front ++ last ∷ [] → made.items ≡ front ++ rank ∷ []) }
+    ensures { IfOk result
+        (λ made. (front : List ℕ) (last : ℕ) → position.items ≡ front ++ last ∷ [] → made.items ≡ front ++ rank ∷ []) }
 {
     let mut made = position;
     made.pop();
@@ -68,7 +74,9 @@ fn with_rank(position: Position, rank: u32) -> Result<Position, AllocError>
 /// The position with one more as its last number, and this rank at its end.
 fn with_next(position: Position, rank: u32) -> Result<Position, AllocError>
     requires { (front : List ℕ) (number last : ℕ) → position.items ≡ front ++ number ∷ last ∷ [] → number < 2 ^ 32 - 1 }
-    ensures { IfOk result (λ made. (front : List ℕ) (number last : ℕ) → position.items ≡ front ++ number ∷ last ∷ [] → made.items ≡ front ++ (number + 1) ∷ rank ∷ []) }
+    ensures { IfOk result
+        (λ made. (front : List ℕ) (number last : ℕ) → position.items ≡ front ++ number ∷ last ∷ []
+        → made.items ≡ front ++ (number + 1) ∷ rank ∷ []) }
 {
     let mut made = position;
     made.pop();
@@ -90,7 +98,8 @@ fn position_beside(
     requires from { from < length outline.now.nodes }
     requires to { to < length outline.now.nodes }
     requires same { scopes_around (shape_of outline.now) from ≡ scopes_around (shape_of outline.now) to }
-    requires outer { (t p : ℕ) → parent_of outline.now.scopes (slice_index (shape_of outline.now).own to) ≡ Some p → LeadsTo outline.now.scopes t p → is_header (shape_of outline.now) t to ≡ false }
+    requires outer { (t p : ℕ) → parent_of outline.now.scopes (slice_index (shape_of outline.now).own to) ≡ Some p
+        → LeadsTo outline.now.scopes t p → is_header (shape_of outline.now) t to ≡ false }
     requires is { IsPosition (shape_of outline.now) from position.items }
     requires room { (t : ℕ) → turn_in (scopes_around (shape_of outline.now) from) position.items t < 2 ^ 32 - 1 }
     ensures { IfOk result (λ made. made.items ≡ moved_position (shape_of outline.now) from position.items to) }

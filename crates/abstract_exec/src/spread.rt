@@ -27,11 +27,14 @@ fn succeed<T: Drop, R: Recorder>(
     requires recorder { R.recording.is_of outline.now recorder }
     requires book { R.recording.book_is_of outline.now book.old }
     requires from { from < length outline.now.nodes }
-    requires along { successor.0 ≢ length outline.now.nodes → Contains outline.now.edges (from, successor.0) × (successor.0 < length outline.now.nodes) }
+    requires along { successor.0 ≢ length outline.now.nodes
+        → Contains outline.now.edges (from, successor.0) × (successor.0 < length outline.now.nodes) }
     requires room { R.recording.length_of recorder < 2 ^ 32 - 1 }
     requires is { IsPosition (shape_of outline.now) from position.items }
     requires low { (t : ℕ) → turn_in (scopes_around (shape_of outline.now) from) position.items t < 2 ^ 32 - 1 }
-    ensures places { OnOk result (made.new.items ≡ made.old.items ++ spots_after R.recording outline.now position.items recorder from book.old successor) }
+    ensures places { OnOk result
+        (made.new.items
+        ≡ made.old.items ++ spots_after R.recording outline.now position.items recorder from book.old successor) }
     ensures book { OnOk result (book.new ≡ book_after R.recording outline.now recorder from book.old successor) }
 {
     let (to, state) = successor;
@@ -70,7 +73,8 @@ pub fn spread<T: Drop, R: Recorder>(
     requires room { R.recording.length_of recorder < 2 ^ 32 - 1 }
     requires is { IsPosition (shape_of outline.now) from position.items }
     requires low { (t : ℕ) → turn_in (scopes_around (shape_of outline.now) from) position.items t < 2 ^ 32 - 1 }
-    ensures places { IfOk result (λ made. made.items ≡ spread_spots R.recording outline.now position.items recorder from book.old next.items) }
+    ensures places { IfOk result
+        (λ made. made.items ≡ spread_spots R.recording outline.now position.items recorder from book.old next.items) }
     ensures book { OnOk result (book.new ≡ spread_book R.recording outline.now recorder from book.old next.items) }
 {
     outline.kept();

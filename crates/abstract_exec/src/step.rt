@@ -1,6 +1,7 @@
 //! Steps of places.
 
-ghost use Rattle.std.specs.Prelude.{◌≡◌, ◌<◌, ◌+◌, ◌-◌, ◌^◌, ◌↔◌, IsTrue, ◌++◌, ◌∷◌, [], suc, length, take, drop, slice_get, Some, IfOk, OnOk};
+ghost use Rattle.std.specs.Prelude.{◌≡◌, ◌<◌, ◌+◌, ◌-◌, ◌^◌, ◌↔◌, IsTrue, ◌++◌, ◌∷◌, [], suc, length, take, drop};
+ghost use Rattle.std.specs.Prelude.{slice_get, Some, IfOk, OnOk};
 ghost use Rattle.domain_core.specs.Outlines.{shape_of};
 ghost use Rattle.domain_core.specs.Machines.{IsAlong};
 ghost use Rattle.worklist_rules.specs.Events.{book_at_faults, spread_spots, spread_book};
@@ -33,7 +34,14 @@ pub fn first_place<S: Stepper, R: Recorder>(
     outline: &Outline,
 ) -> Result<Place<S::State, R>, AllocError>
     requires { R.recording.suits outline.now }
-    ensures { IfOk result (λ place. place ≡ record { node = 0; position = position_of (shape_of outline.now) (0 ∷ []); state = (S.machine stepper.now).first; recorder = R.recording.first outline.now }) }
+    ensures { IfOk result
+        (λ place. place
+        ≡ record {
+          node = 0;
+          position = position_of (shape_of outline.now) (0 ∷ []);
+          state = (S.machine stepper.now).first;
+          recorder = R.recording.first outline.now;
+        }) }
 {
     let position = first_position(alloc, outline)?;
     let state = stepper.start(alloc)?;
@@ -93,8 +101,18 @@ fn followed<S: Stepper, R: Recorder>(
     requires book { R.recording.book_is_of outline.now book.old }
     requires placed { IsPlaced outline.now (S.machine stepper.now) R.recording (2 ^ 32 - 3) place }
     ensures faults { IfOk result (λ out. out.faults ≡ (S.machine stepper.now).faults place.node place.state) }
-    ensures places { IfOk result (λ out. out.places.items ≡ spread_spots R.recording outline.now place.position place.recorder place.node (book_at_faults R.recording outline.now place.recorder place.node book.old ((S.machine stepper.now).faults place.node place.state)) ((S.machine stepper.now).next place.node place.state)) }
-    ensures book { OnOk result (book.new ≡ spread_book R.recording outline.now place.recorder place.node (book_at_faults R.recording outline.now place.recorder place.node book.old ((S.machine stepper.now).faults place.node place.state)) ((S.machine stepper.now).next place.node place.state)) }
+    ensures places { IfOk result
+        (λ out. out.places.items
+        ≡ spread_spots R.recording outline.now place.position place.recorder place.node
+        (book_at_faults R.recording outline.now place.recorder place.node book.old
+        ((S.machine stepper.now).faults place.node place.state))
+        ((S.machine stepper.now).next place.node place.state)) }
+    ensures book { OnOk result
+        (book.new
+        ≡ spread_book R.recording outline.now place.recorder place.node
+        (book_at_faults R.recording outline.now place.recorder place.node book.old
+        ((S.machine stepper.now).faults place.node place.state))
+        ((S.machine stepper.now).next place.node place.state)) }
 {
     outline.kept();
     let Place {
@@ -133,10 +151,25 @@ pub fn step_place<S: Stepper, R: Recorder>(
     requires suits { R.recording.suits outline.now }
     requires along { IsAlong S.State S.Concrete (shape_of outline.now) (S.machine stepper.now) }
     requires book { R.recording.book_is_of outline.now book.old }
-    requires placed { (spot : Spot S.State R) → slice_get places.old at ≡ Some spot → IsPlaced outline.now (S.machine stepper.now) R.recording (2 ^ 32 - 3) spot }
-    ensures told { IfOk result (λ told. (spot : Spot S.State R) → slice_get places.old at ≡ Some spot → (told.0 ≡ spot.node) × (told.1 ≡ (S.machine stepper.now).faults spot.node spot.state)) }
-    ensures places { OnOk result ((spot : Spot S.State R) → slice_get places.old at ≡ Some spot → places.new ≡ take at places.old ++ (spread_spots R.recording outline.now spot.position spot.recorder spot.node (book_at_faults R.recording outline.now spot.recorder spot.node book.old ((S.machine stepper.now).faults spot.node spot.state)) ((S.machine stepper.now).next spot.node spot.state) ++ drop (suc at) places.old)) }
-    ensures book { OnOk result ((spot : Spot S.State R) → slice_get places.old at ≡ Some spot → book.new ≡ spread_book R.recording outline.now spot.recorder spot.node (book_at_faults R.recording outline.now spot.recorder spot.node book.old ((S.machine stepper.now).faults spot.node spot.state)) ((S.machine stepper.now).next spot.node spot.state)) }
+    requires placed { (spot : Spot S.State R) → slice_get places.old at ≡ Some spot
+        → IsPlaced outline.now (S.machine stepper.now) R.recording (2 ^ 32 - 3) spot }
+    ensures told { IfOk result
+        (λ told. (spot : Spot S.State R) → slice_get places.old at ≡ Some spot
+        → (told.0 ≡ spot.node) × (told.1 ≡ (S.machine stepper.now).faults spot.node spot.state)) }
+    ensures places { OnOk result
+        ((spot : Spot S.State R) → slice_get places.old at ≡ Some spot
+        → places.new
+        ≡ take at places.old
+        ++ (spread_spots R.recording outline.now spot.position spot.recorder spot.node
+        (book_at_faults R.recording outline.now spot.recorder spot.node book.old
+        ((S.machine stepper.now).faults spot.node spot.state)) ((S.machine stepper.now).next spot.node spot.state)
+        ++ drop (suc at) places.old)) }
+    ensures book { OnOk result
+        ((spot : Spot S.State R) → slice_get places.old at ≡ Some spot
+        → book.new
+        ≡ spread_book R.recording outline.now spot.recorder spot.node
+        (book_at_faults R.recording outline.now spot.recorder spot.node book.old
+        ((S.machine stepper.now).faults spot.node spot.state)) ((S.machine stepper.now).next spot.node spot.state)) }
     ensures few { OnOk result (length places.new < 2 ^ 32) }
 {
     let place = places.take(at)?;

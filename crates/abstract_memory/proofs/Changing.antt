@@ -21,7 +21,8 @@ use Rattle.abstract_memory.specs.Cells.{count_or, Fits, AllFit, AreSized, Change
 
 -- ---- one frame
 
-frames_at : (frames : List (List HeldSlot)) (i : ℕ) (own : List HeldSlot) → i < length frames → own ≡ get_or frames i own → list_or (slice_get frames i) ≡ own
+frames_at : (frames : List (List HeldSlot)) (i : ℕ) (own : List HeldSlot) → i < length frames
+    → own ≡ get_or frames i own → list_or (slice_get frames i) ≡ own
 frames_at [] i own low is = absurd (omega arith)
 frames_at (slots ∷ frames) zero own low is = sym is
 frames_at (slots ∷ frames) (suc i) own low is = frames_at frames i own (omega arith) is
@@ -30,38 +31,45 @@ length_lengths : (frames : List (List HeldSlot)) → length (map length frames) 
 length_lengths [] = refl
 length_lengths (slots ∷ frames) = ap (λ (n : ℕ). suc n) (length_lengths frames)
 
-count_is : (frames : List (List HeldSlot)) (i : ℕ) → count_or (slice_get (map length frames) i) ≡ length (list_or (slice_get frames i))
+count_is : (frames : List (List HeldSlot)) (i : ℕ)
+    → count_or (slice_get (map length frames) i) ≡ length (list_or (slice_get frames i))
 count_is [] i = refl
 count_is (slots ∷ frames) zero = refl
 count_is (slots ∷ frames) (suc i) = count_is frames i
 
 -- the frame of a cell is there
-pub there : (frames : List (List HeldSlot)) (size : ℕ) (cell : ℕ × ℕ) → Fits (map length frames) size cell → cell.0 < length frames
+pub there : (frames : List (List HeldSlot)) (size : ℕ) (cell : ℕ × ℕ) → Fits (map length frames) size cell
+    → cell.0 < length frames
 there frames size cell fits = subst (λ (n : ℕ). cell.0 < n) (length_lengths frames) fits.frame
 
 -- and the cell ends in it
-pub ends : (frames : List (List HeldSlot)) (size : ℕ) (cell : ℕ × ℕ) (own : List HeldSlot) → Fits (map length frames) size cell → own ≡ get_or frames cell.0 own
+pub ends : (frames : List (List HeldSlot)) (size : ℕ) (cell : ℕ × ℕ) (own : List HeldSlot)
+    → Fits (map length frames) size cell → own ≡ get_or frames cell.0 own
     → cell.1 + size / 8 ≤ length own
 ends frames size cell own fits is =
     subst (λ (n : ℕ). cell.1 + size / 8 ≤ n) (count_is frames cell.0 ∙ ap (λ (s : List HeldSlot). length s) (frames_at frames cell.0 own (there frames size cell fits) is)) fits.end
 
-pub own_sized : (frames : List (List HeldSlot)) (size : ℕ) (cell : ℕ × ℕ) (own : List HeldSlot) → Fits (map length frames) size cell → own ≡ get_or frames cell.0 own
+pub own_sized : (frames : List (List HeldSlot)) (size : ℕ) (cell : ℕ × ℕ) (own : List HeldSlot)
+    → Fits (map length frames) size cell → own ≡ get_or frames cell.0 own
     → AreSized frames → FrameSized abstract_sets (frame_of own)
 own_sized frames size cell own fits is sized =
     subst (λ (s : List HeldSlot). FrameSized abstract_sets (frame_of s)) (frames_at frames cell.0 own (there frames size cell fits) is) (sized cell.0)
 
-pub own_frame : (frames : List (List HeldSlot)) (size : ℕ) (cell : ℕ × ℕ) (own : List HeldSlot) → Fits (map length frames) size cell → own ≡ get_or frames cell.0 own
+pub own_frame : (frames : List (List HeldSlot)) (size : ℕ) (cell : ℕ × ℕ) (own : List HeldSlot)
+    → Fits (map length frames) size cell → own ≡ get_or frames cell.0 own
     → (running : List Bool) → frame_of own ≡ (memory_of running frames).frames cell.0
 own_frame frames size cell own fits is running = ap frame_of (sym (frames_at frames cell.0 own (there frames size cell fits) is))
 
 -- ---- one frame changed
 
-set_lengths : (frames : List (List HeldSlot)) (i : ℕ) (slots : List HeldSlot) → length slots ≡ length (list_or (slice_get frames i)) → map length (slice_set frames i slots) ≡ map length frames
+set_lengths : (frames : List (List HeldSlot)) (i : ℕ) (slots : List HeldSlot)
+    → length slots ≡ length (list_or (slice_get frames i)) → map length (slice_set frames i slots) ≡ map length frames
 set_lengths [] i slots same = refl
 set_lengths (own ∷ frames) zero slots same = ap (λ (n : ℕ). n ∷ map length frames) same
 set_lengths (own ∷ frames) (suc i) slots same = ap (λ ns. length own ∷ ns) (set_lengths frames i slots same)
 
-set_canonical : (frames : List (List HeldSlot)) (i : ℕ) (slots : List HeldSlot) → (map canonical (list_or (slice_get frames i)) ≡ list_or (slice_get frames i) → map canonical slots ≡ slots)
+set_canonical : (frames : List (List HeldSlot)) (i : ℕ) (slots : List HeldSlot)
+    → (map canonical (list_or (slice_get frames i)) ≡ list_or (slice_get frames i) → map canonical slots ≡ slots)
     → map (map canonical) frames ≡ frames → map (map canonical) (slice_set frames i slots) ≡ slice_set frames i slots
 set_canonical [] i slots own is = refl
 set_canonical (first ∷ frames) zero slots own is =
@@ -106,7 +114,8 @@ set_changes_or law frames frame own slots g low is stored count canon sized =
 -- ---- several cells
 
 -- after stores to some of the possible cells, where those of rest are left
-pub record MixedSo (old frames : List (List HeldSlot)) (cells rest : List (ℕ × ℕ)) (size : ℕ) (value : AbstractValue) : Type 0 where
+pub record MixedSo (old frames : List (List HeldSlot)) (cells rest : List (ℕ × ℕ)) (size : ℕ)
+    (value : AbstractValue) : Type 0 where
   pub memory : (running : List Bool) → weak_all abstract_sets (memory_of running frames) rest size value ≡ weak_all abstract_sets (memory_of running old) cells size value
   pub lengths : map length frames ≡ map length old
   pub canonical : map (map canonical) old ≡ old → map (map canonical) frames ≡ frames
@@ -117,7 +126,8 @@ module _ (old : List (List HeldSlot)) (cells : List (ℕ × ℕ)) (size : ℕ) (
   pub none_mixed : AllFit (map length old) size cells → AreSized old → MixedSo old old cells cells size value
   none_mixed fit sized = record { memory = λ running. refl; lengths = refl; canonical = λ is. is; sized = sized; fit = fit }
 
-  pub mixed_more : (frames next : List (List HeldSlot)) (rest others : List (ℕ × ℕ)) (cell : ℕ × ℕ) → rest ≡ cell ∷ others → MixedSo old frames cells rest size value
+  pub mixed_more : (frames next : List (List HeldSlot)) (rest others : List (ℕ × ℕ)) (cell : ℕ × ℕ)
+      → rest ≡ cell ∷ others → MixedSo old frames cells rest size value
       → Changes frames next (λ m. weak_at abstract_sets m cell size value) → MixedSo old next cells others size value
   mixed_more frames next rest others cell is so changes =
       let own = subst (λ (list : List (ℕ × ℕ)). MixedSo old frames cells list size value) is so in
@@ -129,7 +139,8 @@ module _ (old : List (List HeldSlot)) (cells : List (ℕ × ℕ)) (size : ℕ) (
         fit = subst (λ (lengths : List ℕ). AllFit lengths size others) (sym changes.lengths) own.fit.1;
       }
 
-  pub all_mixed : (frames : List (List HeldSlot)) (rest : List (ℕ × ℕ)) → rest ≡ [] → MixedSo old frames cells rest size value
+  pub all_mixed : (frames : List (List HeldSlot)) (rest : List (ℕ × ℕ)) → rest ≡ []
+      → MixedSo old frames cells rest size value
       → Changes old frames (λ m. weak_all abstract_sets m cells size value)
   all_mixed frames rest none so =
       let own = subst (λ (list : List (ℕ × ℕ)). MixedSo old frames cells list size value) none so in
@@ -152,13 +163,15 @@ alone_changes old new cells x size value some few changes = record {
   sized = changes.sized;
 }
 
-many_are_weak : (m : Mem abstract_sets) (cells : List (ℕ × ℕ)) (size : ℕ) (value : AbstractValue) → 2 ≤ length cells → weak_all abstract_sets m cells size value ≡ stored abstract_sets m cells size value
+many_are_weak : (m : Mem abstract_sets) (cells : List (ℕ × ℕ)) (size : ℕ) (value : AbstractValue) → 2 ≤ length cells
+    → weak_all abstract_sets m cells size value ≡ stored abstract_sets m cells size value
 many_are_weak m [] size value some = absurd (omega arith)
 many_are_weak m (cell ∷ []) size value some = absurd (omega arith)
 many_are_weak m (cell ∷ other ∷ cells) size value some = refl
 
 -- several possible cells
-pub many_change : (old new : List (List HeldSlot)) (cells : List (ℕ × ℕ)) (size : ℕ) (value : AbstractValue) → 2 ≤ length cells
+pub many_change : (old new : List (List HeldSlot)) (cells : List (ℕ × ℕ)) (size : ℕ) (value : AbstractValue)
+    → 2 ≤ length cells
     → Changes old new (λ m. weak_all abstract_sets m cells size value) → Changes old new (λ m. stored abstract_sets m cells size value)
 many_change old new cells size value some changes = record {
   memory = λ running. changes.memory running ∙ many_are_weak (memory_of running old) cells size value some;
@@ -170,7 +183,8 @@ many_change old new cells size value some changes = record {
 -- ---- parts
 
 -- the parts of a memory stay parts of one
-pub changed_kept : (parts : MemoryParts) (frames : List (List HeldSlot)) (f : Mem abstract_sets → Mem abstract_sets) → IsMemory parts → Changes parts.frames frames f
+pub changed_kept : (parts : MemoryParts) (frames : List (List HeldSlot)) (f : Mem abstract_sets → Mem abstract_sets)
+    → IsMemory parts → Changes parts.frames frames f
     → IsMemory (record { checked = parts.checked; running = parts.running; frames = frames })
 changed_kept parts frames f is changes = record {
   running = is.running;

@@ -47,17 +47,20 @@ entered_step rows old now function at row slots after same low so_far row_is is 
     ap (λ (xs : List (List HeldSlot)). slice_set xs at after) so_far ∙ (ap (slice_set before at) own ∙ (entered_more rows old function at row slots same low
     ∙ ap (λ (n : ℕ). entered_frames (shapes_of (take n rows)) function old) (let e : suc at ≡ at + 1 = omega arith in e)))
 
-frame_count : (function : ℕ) (row : FrameShape) (slots : List HeldSlot) → length slots ≡ bytes_in row → length (entered_frame function row slots) ≡ bytes_in row
+frame_count : (function : ℕ) (row : FrameShape) (slots : List HeldSlot) → length slots ≡ bytes_in row
+    → length (entered_frame function row slots) ≡ bytes_in row
 frame_count function row slots count = by_test (is_owner row.owner function)
     (λ own. rw own (length-replicate (row.bits / 8) (bare held_no_byte)))
     (λ other. rw other count)
 
-frame_canonical : (function : ℕ) (row : FrameShape) (slots : List HeldSlot) → map canonical slots ≡ slots → map canonical (entered_frame function row slots) ≡ entered_frame function row slots
+frame_canonical : (function : ℕ) (row : FrameShape) (slots : List HeldSlot) → map canonical slots ≡ slots
+    → map canonical (entered_frame function row slots) ≡ entered_frame function row slots
 frame_canonical function row slots is = by_test (is_owner row.owner function)
     (λ own. rw own (blank_canonical (row.bits / 8)))
     (λ other. rw other is)
 
-counts : (rows : List FrameShape) (frames : List (List HeldSlot)) (function : ℕ) → map length frames ≡ map bytes_in rows → map length (entered_frames rows function frames) ≡ map bytes_in rows
+counts : (rows : List FrameShape) (frames : List (List HeldSlot)) (function : ℕ) → map length frames ≡ map bytes_in rows
+    → map length (entered_frames rows function frames) ≡ map bytes_in rows
 counts [] frames function same = ap (λ f. map length f) (none_entered function frames) ∙ same
 counts (row ∷ rows) [] function same = cc
 counts (row ∷ rows) (slots ∷ frames) function same =
@@ -66,7 +69,8 @@ counts (row ∷ rows) (slots ∷ frames) function same =
     ap (λ (n : ℕ). n ∷ map length (entered_frames rows function frames)) (frame_count function row slots first)
     ∙ ap (λ ns. bytes_in row ∷ ns) (counts rows frames function left)
 
-all_canonical : (rows : List FrameShape) (frames : List (List HeldSlot)) (function : ℕ) → map (map canonical) frames ≡ frames
+all_canonical : (rows : List FrameShape) (frames : List (List HeldSlot)) (function : ℕ)
+    → map (map canonical) frames ≡ frames
     → map (map canonical) (entered_frames rows function frames) ≡ entered_frames rows function frames
 all_canonical [] frames function is = ap (λ f. map (map canonical) f) (none_entered function frames) ∙ (is ∙ sym (none_entered function frames))
 all_canonical (row ∷ rows) [] function is = refl
@@ -77,7 +81,8 @@ all_canonical (row ∷ rows) (slots ∷ frames) function is =
     ∙ ap (λ xs. entered_frame function row slots ∷ xs) (all_canonical rows frames function left)
 
 -- as many frames as rows
-pub as_many : (rows : List FrameRow) (frames : List (List HeldSlot)) → map length frames ≡ map bytes_in (shapes_of rows) → length frames ≡ length rows
+pub as_many : (rows : List FrameRow) (frames : List (List HeldSlot)) → map length frames ≡ map bytes_in (shapes_of rows)
+    → length frames ≡ length rows
 as_many [] [] same = refl
 as_many [] (slots ∷ frames) same = cc
 as_many (row ∷ rows) [] same = cc
@@ -115,7 +120,8 @@ module _ (parts : MemoryParts) (function : ℕ) (is : IsMemory parts) (low : fun
   with_frames frames = record { checked = parts.checked; running = slice_set parts.running function true; frames = frames }
 
   -- the same of frames that are those
-  pub kept_with : (frames : List (List HeldSlot)) → frames ≡ entered_frames (rows_of parts.checked) function parts.frames → IsMemory (with_frames frames)
+  pub kept_with : (frames : List (List HeldSlot))
+      → frames ≡ entered_frames (rows_of parts.checked) function parts.frames → IsMemory (with_frames frames)
   kept_with frames same = subst (λ (f : List (List HeldSlot)). IsMemory (with_frames f)) (sym same) entered_kept
 
   pub is_with : (frames : List (List HeldSlot)) → frames ≡ entered_frames (rows_of parts.checked) function parts.frames

@@ -31,7 +31,8 @@ or_cases : (a b : Bool) → (a || b) ≡ true → (a ≡ true) ⊎ (b ≡ true)
 or_cases true b e = inl refl
 or_cases false b e = inr e
 
-pub in_either : (a b : FaultSet) (A B : Type 0) (fault : RunFault) → (has_fault a fault ≡ true) ↔ A → (has_fault b fault ≡ true) ↔ B → (has_fault (either a b) fault ≡ true) ↔ (A ⊎ B)
+pub in_either : (a b : FaultSet) (A B : Type 0) (fault : RunFault) → (has_fault a fault ≡ true) ↔ A
+    → (has_fault b fault ≡ true) ↔ B → (has_fault (either a b) fault ≡ true) ↔ (A ⊎ B)
 in_either a b A B fault of_a of_b = (
   λ e. elim (or_cases (has_fault a fault) (has_fault b fault) (sym (is_united a b fault) ∙ e)) [ inl h ↦ inl (of_a.0 h) | inr h ↦ inr (of_b.0 h) ],
   λ h. is_united a b fault ∙ elim h [ inl x ↦ or_left (has_fault a fault) (has_fault b fault) (of_a.1 x) | inr y ↦ or_right (has_fault a fault) (has_fault b fault) (of_b.1 y) ],
@@ -50,13 +51,15 @@ alone_told Mixed Mixed e = refl
 alone_told Pointers Pointers e = refl
 alone_told _ _ e = absurd (false≢true e)
 
-pub one_told : (told fault : RunFault) (P : Type 0) → P → (has_fault (with_fault no_faults told) fault ≡ true) ↔ ((told ≡ fault) × P)
+pub one_told : (told fault : RunFault) (P : Type 0) → P
+    → (has_fault (with_fault no_faults told) fault ≡ true) ↔ ((told ≡ fault) × P)
 one_told told fault P holds = (
   λ e. (alone_told told fault e, holds),
   λ h. subst (λ (k : RunFault). has_fault (with_fault no_faults told) k ≡ true) h.0 (is_new no_faults told),
 )
 
-pub word_told : (words : Stride) (fault : RunFault) → (has_fault (with_fault no_faults Kind) fault ≡ true) ↔ IsWordFault (Some words) fault
+pub word_told : (words : Stride) (fault : RunFault)
+    → (has_fault (with_fault no_faults Kind) fault ≡ true) ↔ IsWordFault (Some words) fault
 word_told words fault = (λ e. alone_told Kind fault e, λ h. ((one_told Kind fault (Unit {0}) tt).1 (h, tt)))
 
 -- ---- a cell past the last that fits
@@ -68,7 +71,8 @@ past_fits bits size t past =
     (λ e. rw e (omega arith))
     (λ e. let room : size ≤ bits = ltb-false bits size e in rw e (omega (arith, high, room)))
 
-pub bounds_none : (x : Stride) (bits size : ℕ) (fault : RunFault) → Finds (CoversWord x) (first_past bits size) None → (has_fault no_faults fault ≡ true) ↔ IsBoundsFault x bits size fault
+pub bounds_none : (x : Stride) (bits size : ℕ) (fault : RunFault) → Finds (CoversWord x) (first_past bits size) None
+    → (has_fault no_faults fault ≡ true) ↔ IsBoundsFault x bits size fault
 bounds_none x bits size fault none = none_told (IsBoundsFault x bits size fault) fault (λ h. none h.1.0 h.1.1 (past_fits bits size h.1.0 h.1.2))
 
 -- ---- pointers into one frame
@@ -76,7 +80,8 @@ bounds_none x bits size fault none = none_told (IsBoundsFault x bits size fault)
 same_error : (told fault : RunFault) → (let r : Result (ℕ × ℕ) RunFault = Err told in r) ≡ Err fault → told ≡ fault
 same_error told fault e = cc
 
-pub dead_told : (found : Option FrameShape) (runs : ℕ → Bool) (place : ℕ × Stride) (size : ℕ) (fault : RunFault) → IsPlace place → None ≡ bits_on found runs
+pub dead_told : (found : Option FrameShape) (runs : ℕ → Bool) (place : ℕ × Stride) (size : ℕ) (fault : RunFault)
+    → IsPlace place → None ≡ bits_on found runs
     → (has_fault (with_fault no_faults Dead) fault ≡ true) ↔ IsPlaceFault found runs place size fault
 dead_told found runs place size fault is none =
     let some = some_word place.1 is.offsets in
@@ -101,7 +106,8 @@ bounds_told found runs place size bits fault told some of_bounds =
 -- ---- all alternatives
 
 -- a frame below all is not pointed to
-absent : (least frame : ℕ) (places : List (ℕ × Stride)) → Ascends least places → frame ≤ least → offsets_in places frame ≡ None
+absent : (least frame : ℕ) (places : List (ℕ × Stride)) → Ascends least places → frame ≤ least
+    → offsets_in places frame ≡ None
 absent least frame [] ascends low = refl
 absent least frame (place ∷ places) ascends low = by_test (place.0 == frame)
     (λ e. absurd (let same : place.0 ≡ frame = eqb-true place.0 frame e in omega (arith, same, ascends.0, low)))
@@ -112,13 +118,15 @@ rest_ascends least [] ascends = tt
 rest_ascends least (place ∷ places) ascends = ascends.1
 
 -- a pointer that is covered, and its fault
-record Faulty (rows : List FrameShape) (runs : ℕ → Bool) (places : List (ℕ × Stride)) (size : ℕ) (fault : RunFault) : Type 0 where
+record Faulty (rows : List FrameShape) (runs : ℕ → Bool) (places : List (ℕ × Stride)) (size : ℕ)
+    (fault : RunFault) : Type 0 where
   frame : ℕ
   offset : ℕ
   covers : IsSomeAnd (offsets_in places frame) (λ offsets. CoversWord offsets offset)
   test : tested rows runs (Ptr frame offset) size ≡ Err fault
 
-places_from : (rows : List FrameShape) (runs : ℕ → Bool) (places : List (ℕ × Stride)) (size : ℕ) (fault : RunFault) → AreAscending places → IsFaultOf rows runs places size fault
+places_from : (rows : List FrameShape) (runs : ℕ → Bool) (places : List (ℕ × Stride)) (size : ℕ) (fault : RunFault)
+    → AreAscending places → IsFaultOf rows runs places size fault
     → Faulty rows runs places size fault
 places_from rows runs [] size fault ascending h = elim h [ ]
 places_from rows runs (place ∷ places) size fault ascending (inl h) = record { frame = place.0; offset = h.0; covers = rw (eq-eqb place.0 place.0 refl) h.1; test = h.2 }
@@ -142,7 +150,8 @@ places_told rows runs (place ∷ places) frame offset size fault covers test = b
     inl (offset, member, ap (λ (f : ℕ). tested_in (slice_get rows f) runs f offset size) same ∙ test))
     (λ e. inr (places_told rows runs places frame offset size fault (rw e at covers) test))
 
-some_words : (words : Option Stride) (size bits : ℕ) (fault : RunFault) → Kind ≡ fault → IsSomeAnd words (λ w. (w.size ≡ size) × CoversWord w bits) → IsWordFault words fault
+some_words : (words : Option Stride) (size bits : ℕ) (fault : RunFault) → Kind ≡ fault
+    → IsSomeAnd words (λ w. (w.size ≡ size) × CoversWord w bits) → IsWordFault words fault
 some_words None size bits fault same h = elim h [ ]
 some_words (Some words) size bits fault same h = same
 
@@ -152,7 +161,8 @@ word_from None fault is h = elim h [ ]
 word_from (Some words) fault is h = let w = some_word words is in (h, (words.size, w.0, (refl, w.1)))
 
 -- the faults of an address are those of its words and of its places
-pub of_address : (rows : List FrameShape) (runs : ℕ → Bool) (at : AbstractValue) (size : ℕ) (fault : RunFault) → IsAbstract at
+pub of_address : (rows : List FrameShape) (runs : ℕ → Bool) (at : AbstractValue) (size : ℕ) (fault : RunFault)
+    → IsAbstract at
     → (IsWordFault at.words fault ⊎ IsFaultOf rows runs at.places size fault) ↔ IsAddressFault rows runs at size fault
 of_address rows runs at size fault is = (
   λ h. elim h [
@@ -162,6 +172,7 @@ of_address rows runs at size fault is = (
   λ h. told h.0 h.1 h.2,
 )
   where
-    told : (place : Value) → Covers at place → tested rows runs place size ≡ Err fault → IsWordFault at.words fault ⊎ IsFaultOf rows runs at.places size fault
+    told : (place : Value) → Covers at place → tested rows runs place size ≡ Err fault
+        → IsWordFault at.words fault ⊎ IsFaultOf rows runs at.places size fault
     told (Int own word) covers test = inl (some_words at.words own word fault (same_error Kind fault test) covers)
     told (Ptr frame offset) covers test = inr (places_told rows runs at.places frame offset size fault covers test)

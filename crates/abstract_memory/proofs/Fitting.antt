@@ -28,17 +28,20 @@ module _ (rows : List FrameShape) (size : ℕ) (lengths : List ℕ) (is : IsCell
       let end : offset + size / 8 ≤ cell.row.bits / 8 = omega (arith, low, whole) in
       record { frame = slice_get_within lengths frame (bytes_in cell.row) found; end = subst (λ (o : Option ℕ). offset + size / 8 ≤ count_or o) (sym found) end }
 
-  both_fit : (first second : List (ℕ × ℕ)) → AllFit lengths size first → AllFit lengths size second → AllFit lengths size (first ++ second)
+  both_fit : (first second : List (ℕ × ℕ)) → AllFit lengths size first → AllFit lengths size second
+      → AllFit lengths size (first ++ second)
   both_fit [] second a b = b
   both_fit (cell ∷ first) second a b = (a.0, both_fit first second a.1 b)
 
-  in_row : (frame : ℕ) (row : FrameShape) (members : Stride) (all : List ℕ) → slice_get rows frame ≡ Some row → AllFit lengths size (cells_at frame row.bits size members all)
+  in_row : (frame : ℕ) (row : FrameShape) (members : Stride) (all : List ℕ) → slice_get rows frame ≡ Some row
+      → AllFit lengths size (cells_at frame row.bits size members all)
   in_row frame row members [] found = tt
   in_row frame row members (offset ∷ all) found = by_test (has members offset && fits_in row.bits offset size)
       (λ on. rw on (fits_one frame offset (record { row = row; found = found; fits = (and_parts (has members offset) (fits_in row.bits offset size) on).1 }), in_row frame row members all found))
       (λ off. rw off (in_row frame row members all found))
 
-  in_frame : (runs : ℕ → Bool) (place : ℕ × Stride) (o : Option FrameShape) → slice_get rows place.0 ≡ o → AllFit lengths size (cells_in o runs place size)
+  in_frame : (runs : ℕ → Bool) (place : ℕ × Stride) (o : Option FrameShape) → slice_get rows place.0 ≡ o
+      → AllFit lengths size (cells_in o runs place size)
   in_frame runs place None found = tt
   in_frame runs place (Some row) found = by_test (is_on runs row.owner)
       (λ on. rw on (in_row place.0 row place.1 (offsets 0 (row.bits / 8)) found))

@@ -24,7 +24,8 @@ use Rattle.memory_model.specs.SeenOrders.{AreAlike, joined}
 use Rattle.abstract_memory.specs.Rows.{AreFrames}
 
 -- the frames of a memory are frames of its rows
-pub are_frames : (rows : List FrameRow) (frames : List (List HeldSlot)) → map length frames ≡ map bytes_in (shapes_of rows) → map (map canonical) frames ≡ frames
+pub are_frames : (rows : List FrameRow) (frames : List (List HeldSlot))
+    → map length frames ≡ map bytes_in (shapes_of rows) → map (map canonical) frames ≡ frames
     → ((frame : ℕ) → FrameSized abstract_sets (frame_of (list_or (slice_get frames frame)))) → AreFrames rows frames
 are_frames [] [] same is sized = tt
 are_frames [] (slots ∷ frames) same is sized = cc

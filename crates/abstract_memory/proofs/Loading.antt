@@ -23,13 +23,15 @@ use Rattle.frame_memory.specs.LoadLaws.{onto_more, faults_told}
 use Rattle.abstract_memory.specs.Cells.{AllFit}
 
 -- after loads of some of the possible cells, where those of rest are left
-pub record LoadedSo (frames : List (List HeldSlot)) (cells rest : List (ℕ × ℕ)) (size : ℕ) (before now : Loaded) : Type 0 where
+pub record LoadedSo (frames : List (List HeldSlot)) (cells rest : List (ℕ × ℕ)) (size : ℕ)
+    (before now : Loaded) : Type 0 where
   pub value : (running : List Bool) → onto now (load_all abstract_sets (memory_of running frames) rest size) ≡ onto before (load_all abstract_sets (memory_of running frames) cells size)
   pub sized : IfSome now.value (IsValue size)
   pub fit : AllFit (map length frames) size rest
 
 module _ (frames : List (List HeldSlot)) (cells : List (ℕ × ℕ)) (size : ℕ) (before : Loaded) where
-  pub loaded_more : (now next : Loaded) (rest others : List (ℕ × ℕ)) (cell : ℕ × ℕ) → rest ≡ cell ∷ others → LoadedSo frames cells rest size before now
+  pub loaded_more : (now next : Loaded) (rest others : List (ℕ × ℕ)) (cell : ℕ × ℕ) → rest ≡ cell ∷ others
+      → LoadedSo frames cells rest size before now
       → ((running : List Bool) → next ≡ onto now (load_results abstract_sets ((memory_of running frames).frames cell.0) cell.1 size))
       → IfSome next.value (IsValue size) → LoadedSo frames cells others size before next
   loaded_more now next rest others cell is so loads sized =

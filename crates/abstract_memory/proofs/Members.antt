@@ -35,7 +35,8 @@ turn_member p t (inl (inr h)) =
 turn_member p t (inr h) =
     member_other 32 p t (pos t -ℤ neg_ℤ (full 32)) h.0 (divides_same (full 32) (full 32) ((pos t -ℤ neg_ℤ (full 32)) -ℤ pos t) (omega (arith, ints)) (divides_itself (full 32))) h.1
 
-pub next_found : (x : Stride) (p : Progression) (from : ℕ) (here raised lowered : Option ℕ) → x.size ≡ 32 → p ≡ x.numbers → IsPlaced 32 p
+pub next_found : (x : Stride) (p : Progression) (from : ℕ) (here raised lowered : Option ℕ) → x.size ≡ 32
+    → p ≡ x.numbers → IsPlaced 32 p
     → Finds (IsTurned p (pos 0)) from here → Finds (IsTurned p (pos (2 ^ 32))) from raised → Finds (IsTurned p (neg_ℤ (pos (2 ^ 32)))) from lowered
     → Finds (Covers x) from (lesser_of (lesser_of here raised) lowered)
 next_found x p from here raised lowered size same placed a b c =

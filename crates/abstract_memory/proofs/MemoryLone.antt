@@ -40,14 +40,17 @@ append_none (x ∷ xs) = ap (λ rest. x ∷ rest) (append_none xs)
 -- ---- the cell, where an address means it alone
 module _ (rows : List FrameShape) (at : AbstractValue) (size : ℕ) (cell : ℕ × ℕ) where
   -- it lies in its frame
-  pub lone_fits : (runs : ℕ → Bool) (lengths : List ℕ) → IsCellSize size → lengths ≡ map bytes_in rows → IsOnlyCell rows runs at size cell → Fits lengths size cell
+  pub lone_fits : (runs : ℕ → Bool) (lengths : List ℕ) → IsCellSize size → lengths ≡ map bytes_in rows
+      → IsOnlyCell rows runs at size cell → Fits lengths size cell
   lone_fits runs lengths is same only = (subst (λ (list : List (ℕ × ℕ)). AllFit lengths size list) only.cells (all_fit rows size lengths is same runs at.places)).0
 
-  one_result : (m : Mem abstract_sets) → load_results abstract_sets (m.frames cell.0) cell.1 size ≡ load_all abstract_sets m (cell ∷ []) size
+  one_result : (m : Mem abstract_sets)
+      → load_results abstract_sets (m.frames cell.0) cell.1 size ≡ load_all abstract_sets m (cell ∷ []) size
   one_result m = sym (append_none (load_results abstract_sets (m.frames cell.0) cell.1 size))
 
   -- what a load gives
-  pub lone_loads : (running : List Bool) (frames : List (List HeldSlot)) (told : FaultSet) (loaded : Loaded) → told ≡ no_faults → IsOnlyCell rows (runs_in running) at size cell
+  pub lone_loads : (running : List Bool) (frames : List (List HeldSlot)) (told : FaultSet) (loaded : Loaded)
+      → told ≡ no_faults → IsOnlyCell rows (runs_in running) at size cell
       → ((r : List Bool) → loaded ≡ onto (record { value = None; faults = told }) (load_results abstract_sets ((memory_of r frames).frames cell.0) cell.1 size))
       → IfSome loaded.value (IsValue size)
       → Loads rows (memory_of running frames) at size (loaded.value, loaded.faults)
@@ -64,7 +67,8 @@ module _ (rows : List FrameShape) (at : AbstractValue) (size : ℕ) (cell : ℕ 
       }
 
   -- and of a cell that is known to hold a value
-  pub known_loads : (running : List Bool) (frames : List (List HeldSlot)) (told : FaultSet) (value : AbstractValue) → told ≡ no_faults → IsOnlyCell rows (runs_in running) at size cell
+  pub known_loads : (running : List Bool) (frames : List (List HeldSlot)) (told : FaultSet) (value : AbstractValue)
+      → told ≡ no_faults → IsOnlyCell rows (runs_in running) at size cell
       → ((r : List Bool) → load_results abstract_sets ((memory_of r frames).frames cell.0) cell.1 size ≡ Ok value ∷ []) → IsValue size value
       → Loads rows (memory_of running frames) at size (Some value, told)
   known_loads running frames told value none only gives sized =
@@ -72,7 +76,8 @@ module _ (rows : List FrameShape) (at : AbstractValue) (size : ℕ) (cell : ℕ 
       lone_loads running frames told (record { value = Some value; faults = told }) none only (λ r. ap (onto before) (sym (gives r))) sized
 
   -- what a store changes
-  pub lone_changes : (runs : ℕ → Bool) (old new : List (List HeldSlot)) (value : AbstractValue) → Changes old new (λ m. strong_at abstract_sets m cell size value)
+  pub lone_changes : (runs : ℕ → Bool) (old new : List (List HeldSlot)) (value : AbstractValue)
+      → Changes old new (λ m. strong_at abstract_sets m cell size value)
       → IsOnlyCell rows runs at size cell → Changes old new (λ m. stored abstract_sets m (cells_of rows runs at.places size) size value)
   lone_changes runs old new value changes only =
       subst (λ (list : List (ℕ × ℕ)). Changes old new (λ m. stored abstract_sets m list size value)) (sym only.cells) changes
@@ -81,7 +86,8 @@ module _ (rows : List FrameShape) (at : AbstractValue) (size : ℕ) (cell : ℕ 
   some_cell rest e = cc
 
   -- a run goes on
-  pub lone_goes_on : (runs : ℕ → Bool) (on : Bool) → on ≡ true → IsOnlyCell rows runs at size cell → IsTrue on ↔ (cells_of rows runs at.places size ≢ [])
+  pub lone_goes_on : (runs : ℕ → Bool) (on : Bool) → on ≡ true → IsOnlyCell rows runs at size cell
+      → IsTrue on ↔ (cells_of rows runs at.places size ≢ [])
   lone_goes_on runs on is only = (λ yes none. some_cell [] (sym only.cells ∙ none), λ some. subst IsTrue (sym is) refl)
 
   -- and no fault is told

@@ -24,7 +24,8 @@ ok_or_err : (cell : ℕ × ℕ) (fault : RunFault) → (let r : Result (ℕ × �
 ok_or_err cell fault e = cc
 
 -- where the address is one pointer, to a cell that fits an active frame
-pub only_cell : (rows : List FrameShape) (runs : ℕ → Bool) (at : AbstractValue) (size : ℕ) (cell : ℕ × ℕ) → IsValue 32 at → IsCellSize size
+pub only_cell : (rows : List FrameShape) (runs : ℕ → Bool) (at : AbstractValue) (size : ℕ) (cell : ℕ × ℕ)
+    → IsValue 32 at → IsCellSize size
     → IsOnlyPlace at cell → tested rows runs (Ptr cell.0 cell.1) size ≡ Ok cell → IsOnlyCell rows runs at size cell
 only_cell rows runs at size cell of_at is only there = record {
   cells = one_cell rows runs at (Ptr cell.0 cell.1) size is of_at only ∙ ap cells_told there;
@@ -40,13 +41,15 @@ offset_sized offset small = stride_is_sets.single_size 32 offset has_32 small
 pub pointer_value : (frame offset : ℕ) → offset < 2 ^ 32 → IsValue 32 (pointer_to frame offset)
 pointer_value frame offset small = alone_is 32 (Places frame (one_word 32 offset)) (offset_sized offset small, refl)
 
-pub pointer_alone : (frame : ℕ) (offsets : Stride) (offset : ℕ) → IsOnlyOffset offsets offset → IsOnlyPlace (alone (Places frame offsets)) (frame, offset)
+pub pointer_alone : (frame : ℕ) (offsets : Stride) (offset : ℕ) → IsOnlyOffset offsets offset
+    → IsOnlyPlace (alone (Places frame offsets)) (frame, offset)
 pointer_alone frame offsets offset only =
     let one = alone_only (Places frame offsets) (Ptr frame offset) (refl, only) in
     (one.is, one.one)
 
 -- and so of a pointer that is written so
-pub pointer_cell : (rows : List FrameShape) (runs : ℕ → Bool) (frame offset size : ℕ) → offset < 2 ^ 32 → IsCellSize size
+pub pointer_cell : (rows : List FrameShape) (runs : ℕ → Bool) (frame offset size : ℕ) → offset < 2 ^ 32
+    → IsCellSize size
     → tested rows runs (Ptr frame offset) size ≡ Ok (frame, offset) → IsOnlyCell rows runs (pointer_to frame offset) size (frame, offset)
 pointer_cell rows runs frame offset size small is there =
     only_cell rows runs (pointer_to frame offset) size (frame, offset) (pointer_value frame offset small) is

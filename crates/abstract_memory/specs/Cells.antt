@@ -49,7 +49,8 @@ abbrev pub AreSized : List (List HeldSlot) → Type 0
 AreSized frames = (frame : ℕ) → FrameSized abstract_sets (frame_of (list_or (slice_get frames frame)))
 
 -- a load through the address gives this
-pub record Loads (rows : List FrameShape) (m : Mem abstract_sets) (at : AbstractValue) (size : ℕ) (loaded : Option AbstractValue × FaultSet) : Type 0 where
+pub record Loads (rows : List FrameShape) (m : Mem abstract_sets) (at : AbstractValue) (size : ℕ)
+    (loaded : Option AbstractValue × FaultSet) : Type 0 where
   pub value : loaded.0 ≡ joined_values abstract_sets None (load_at rows m at size)
   pub sized : IfSome loaded.0 (IsValue size)
   pub faults : (fault : RunFault) → (has_fault loaded.1 fault ≡ true) ↔ IsLoadFault rows m at size fault

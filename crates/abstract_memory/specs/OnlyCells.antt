@@ -24,7 +24,8 @@ abbrev pub IsOnlyPlace : AbstractValue → ℕ × ℕ → Type 0
 IsOnlyPlace at place = OnlyCovers abstract_sets at (Ptr place.0 place.1)
 
 -- the cell alone is possible, and the address has no fault
-pub record IsOnlyCell (rows : List FrameShape) (runs : ℕ → Bool) (at : AbstractValue) (size : ℕ) (cell : ℕ × ℕ) : Type 0 where
+pub record IsOnlyCell (rows : List FrameShape) (runs : ℕ → Bool) (at : AbstractValue) (size : ℕ)
+    (cell : ℕ × ℕ) : Type 0 where
   pub cells : cells_of rows runs at.places size ≡ cell ∷ []
   pub faults : (fault : RunFault) → IsAddressFault rows runs at size fault → ⊥
 

@@ -1,6 +1,7 @@
 //! The cells of an address.
 
-ghost use Rattle.std.specs.Prelude.{◌≡◌, ◌≤◌, ◌<◌, ◌/◌, ◌+◌, ◌↔◌, ◌∷◌, [], ◌++◌, ℕ, Ok, IfOk, OnOk, IfSome, IfNone, IsTrue, slice_get};
+ghost use Rattle.std.specs.Prelude.{◌≡◌, ◌≤◌, ◌<◌, ◌/◌, ◌+◌, ◌↔◌, ◌∷◌, [], ◌++◌, ℕ, Ok, IfOk, OnOk, IfSome, IfNone};
+ghost use Rattle.std.specs.Prelude.{IsTrue, slice_get};
 ghost use Rattle.alf_ops.specs.declared.history.Value.TheVariants.{Ptr};
 ghost use Rattle.alf_ops.specs.Histories.{fits_in};
 ghost use Rattle.alf_check.specs.Shapes.{shapes_of};
@@ -31,7 +32,9 @@ fn next_cell(members: Strided, bits: u32, size: u32, from: u32) -> Option<u32>
     ensures none { IfNone result ((frame : ℕ) → cells_from frame bits size members from ≡ []) }
     ensures above { IfSome result (λ offset. from ≤ offset) }
     ensures within { IfSome result (λ offset. offset < bits / 8) }
-    ensures first { IfSome result (λ offset. (frame : ℕ) → cells_from frame bits size members from ≡ (frame, offset) ∷ cells_from frame bits size members (offset + 1)) }
+    ensures first { IfSome result
+        (λ offset. (frame : ℕ)
+        → cells_from frame bits size members from ≡ (frame, offset) ∷ cells_from frame bits size members (offset + 1)) }
 {
     // Brings in that their progression has its stride and small numbers.
     let _ = members.numbers();
@@ -79,7 +82,10 @@ fn put_place(
     requires members { place.now.1.size ≡ 32 }
     requires some { 8 ≤ size }
     requires few { size ≤ 64 }
-    ensures { OnOk result (cells.new.items ≡ cells.old.items ++ cells_in (slice_get (shapes_of rows.now) place.now.0) (runs_in running.now) place.now size) }
+    ensures { OnOk result
+        (cells.new.items
+        ≡ cells.old.items
+        ++ cells_in (slice_get (shapes_of rows.now) place.now.0) (runs_in running.now) place.now size) }
 {
     match active_bits(rows, running, place.0) {
         None => Ok(()),
@@ -98,7 +104,8 @@ pub fn cells(
 ) -> Result<Vec<(u32, u32)>, AllocError>
     requires some { 8 ≤ size }
     requires few { size ≤ 64 }
-    ensures { IfOk result (λ cells. cells.items ≡ cells_of (shapes_of rows.now) (runs_in running.now) at.now.places size) }
+    ensures { IfOk result
+        (λ cells. cells.items ≡ cells_of (shapes_of rows.now) (runs_in running.now) at.now.places size) }
 {
     let mut cells = Vec::new(alloc);
     let mut rest = at.at();
@@ -112,7 +119,8 @@ pub fn cells(
 /// Whether the frame is active and the cell fits it. Takes no memory.
 pub fn has_cell(rows: &[FrameRow], running: &[bool], frame: u32, offset: u32, size: u32) -> bool
     requires { size ≤ 64 }
-    ensures { IsTrue result ↔ (tested (shapes_of rows.now) (runs_in running.now) (Ptr frame offset) size ≡ Ok (frame, offset)) }
+    ensures { IsTrue result
+        ↔ (tested (shapes_of rows.now) (runs_in running.now) (Ptr frame offset) size ≡ Ok (frame, offset)) }
 {
     match active_bits(rows, running, frame) {
         None => false,

@@ -43,7 +43,9 @@ fn bounds_fault(members: Strided, bits: u32, size: u32) -> FaultSet
 fn place_fault(rows: &[FrameRow], running: &[bool], place: &(u32, Strided), size: u32) -> FaultSet
     requires place { IsPlace place.now }
     requires some { 8 ≤ size }
-    ensures { (fault : RunFault) → (has_fault result fault ≡ true) ↔ IsPlaceFault (slice_get (shapes_of rows.now) place.now.0) (runs_in running.now) place.now size fault }
+    ensures { (fault : RunFault)
+        → (has_fault result fault ≡ true)
+        ↔ IsPlaceFault (slice_get (shapes_of rows.now) place.now.0) (runs_in running.now) place.now size fault }
 {
     match active_bits(rows, running, place.0) {
         None => FaultSet::none().with(RunFault::Dead),
@@ -60,7 +62,8 @@ fn place_faults(
 ) -> FaultSet
     requires places { ArePlaces places.now }
     requires some { 8 ≤ size }
-    ensures { (fault : RunFault) → (has_fault result fault ≡ true) ↔ IsFaultOf (shapes_of rows.now) (runs_in running.now) places.now size fault }
+    ensures { (fault : RunFault)
+        → (has_fault result fault ≡ true) ↔ IsFaultOf (shapes_of rows.now) (runs_in running.now) places.now size fault }
 {
     match places.split_first() {
         None => FaultSet::none(),
@@ -76,7 +79,9 @@ fn place_faults(
 pub fn address_faults(rows: &[FrameRow], running: &[bool], at: &AVal, size: u32) -> FaultSet
     requires some { 8 ≤ size }
     requires few { size ≤ 64 }
-    ensures { (fault : RunFault) → (has_fault result fault ≡ true) ↔ IsAddressFault (shapes_of rows.now) (runs_in running.now) at.now size fault }
+    ensures { (fault : RunFault)
+        → (has_fault result fault ≡ true)
+        ↔ IsAddressFault (shapes_of rows.now) (runs_in running.now) at.now size fault }
 {
     let own = word_fault(at.int());
     own.union(place_faults(rows, running, at.at(), size))

@@ -42,7 +42,9 @@ fn load_in(
     requires fits { Fits (map length frames.now) size cell }
     requires sized { AreSized frames.now }
     requires before { IfSome before.value (IsValue size) }
-    ensures value { IfOk result (λ now. (running : List Bool) → now ≡ onto before (load_results abstract_sets ((memory_of running frames.now).frames cell.0) cell.1 size)) }
+    ensures value { IfOk result
+        (λ now. (running : List Bool)
+        → now ≡ onto before (load_results abstract_sets ((memory_of running frames.now).frames cell.0) cell.1 size)) }
     ensures sized { IfOk result (λ now. IfSome now.value (IsValue size)) }
 {
     let (frame, offset) = cell;
@@ -61,7 +63,9 @@ pub(crate) fn load_cells(
     requires fit { AllFit (map length frames.now) size cells.now }
     requires sized { AreSized frames.now }
     requires before { IfSome before.value (IsValue size) }
-    ensures value { IfOk result (λ now. (running : List Bool) → now ≡ onto before (load_all abstract_sets (memory_of running frames.now) cells.now size)) }
+    ensures value { IfOk result
+        (λ now. (running : List Bool)
+        → now ≡ onto before (load_all abstract_sets (memory_of running frames.now) cells.now size)) }
     ensures sized { IfOk result (λ now. IfSome now.value (IsValue size)) }
 {
     let mut loaded = before;
@@ -78,7 +82,9 @@ fn known_in(frames: &[FrameSlots], cell: (u32, u32), size: u32) -> Option<&AVal>
     requires size { IsCellSize size }
     requires fits { Fits (map length frames.now) size cell }
     requires sized { AreSized frames.now }
-    ensures value { IfSome result (λ value. (running : List Bool) → load_results abstract_sets ((memory_of running frames.now).frames cell.0) cell.1 size ≡ Ok value.now ∷ []) }
+    ensures value { IfSome result
+        (λ value. (running : List Bool)
+        → load_results abstract_sets ((memory_of running frames.now).frames cell.0) cell.1 size ≡ Ok value.now ∷ []) }
     ensures sized { IfSome result (λ value. IsValue size value.now) }
 {
     let (frame, offset) = cell;
@@ -95,7 +101,9 @@ fn load_any(
     requires size { IsCellSize size }
     requires fits { Fits (map length frames.now) size cell }
     requires sized { AreSized frames.now }
-    ensures { IfOk result (λ loaded. (rows : List FrameShape) (running : List Bool) (at : AbstractValue) → IsOnlyCell rows (runs_in running) at size cell → Loads rows (memory_of running frames.now) at size loaded) }
+    ensures { IfOk result
+        (λ loaded. (rows : List FrameShape) (running : List Bool) (at : AbstractValue)
+        → IsOnlyCell rows (runs_in running) at size cell → Loads rows (memory_of running frames.now) at size loaded) }
 {
     let before = Loaded {
         value: None,
@@ -115,7 +123,9 @@ fn load_lone(
     requires size { IsCellSize size }
     requires fits { Fits (map length frames.now) size cell }
     requires sized { AreSized frames.now }
-    ensures { IfOk result (λ loaded. (rows : List FrameShape) (running : List Bool) (at : AbstractValue) → IsOnlyCell rows (runs_in running) at size cell → Loads rows (memory_of running frames.now) at size loaded) }
+    ensures { IfOk result
+        (λ loaded. (rows : List FrameShape) (running : List Bool) (at : AbstractValue)
+        → IsOnlyCell rows (runs_in running) at size cell → Loads rows (memory_of running frames.now) at size loaded) }
 {
     let Some(value) = known_in(frames, cell, size) else {
         return load_any(alloc, frames, cell, size);
@@ -137,9 +147,15 @@ pub(crate) fn load_through(
     requires size { IsCellSize size }
     requires lengths { map length frames.now ≡ map bytes_in (shapes_of rows.now) }
     requires sized { AreSized frames.now }
-    ensures value { IfOk result (λ loaded. loaded.0 ≡ joined_values abstract_sets None (load_at (shapes_of rows.now) (memory_of running.now frames.now) at.now size)) }
+    ensures value { IfOk result
+        (λ loaded. loaded.0
+        ≡ joined_values abstract_sets None
+        (load_at (shapes_of rows.now) (memory_of running.now frames.now) at.now size)) }
     ensures sized { IfOk result (λ loaded. IfSome loaded.0 (IsValue size)) }
-    ensures faults { IfOk result (λ loaded. (fault : RunFault) → (has_fault loaded.1 fault ≡ true) ↔ IsLoadFault (shapes_of rows.now) (memory_of running.now frames.now) at.now size fault) }
+    ensures faults { IfOk result
+        (λ loaded. (fault : RunFault)
+        → (has_fault loaded.1 fault ≡ true)
+        ↔ IsLoadFault (shapes_of rows.now) (memory_of running.now frames.now) at.now size fault) }
 {
     if let Some(cell) = lone_cell(rows, running, at, size) {
         return load_lone(alloc, frames, cell, size);
@@ -166,9 +182,15 @@ pub(crate) fn load_from(
     requires size { IsCellSize size }
     requires lengths { map length frames.now ≡ map bytes_in (shapes_of rows.now) }
     requires sized { AreSized frames.now }
-    ensures value { IfOk result (λ loaded. loaded.0 ≡ joined_values abstract_sets None (load_at (shapes_of rows.now) (memory_of running.now frames.now) (pointer_to frame offset) size)) }
+    ensures value { IfOk result
+        (λ loaded. loaded.0
+        ≡ joined_values abstract_sets None
+        (load_at (shapes_of rows.now) (memory_of running.now frames.now) (pointer_to frame offset) size)) }
     ensures sized { IfOk result (λ loaded. IfSome loaded.0 (IsValue size)) }
-    ensures faults { IfOk result (λ loaded. (fault : RunFault) → (has_fault loaded.1 fault ≡ true) ↔ IsLoadFault (shapes_of rows.now) (memory_of running.now frames.now) (pointer_to frame offset) size fault) }
+    ensures faults { IfOk result
+        (λ loaded. (fault : RunFault)
+        → (has_fault loaded.1 fault ≡ true)
+        ↔ IsLoadFault (shapes_of rows.now) (memory_of running.now frames.now) (pointer_to frame offset) size fault) }
 {
     if has_cell(rows, running, frame, offset, size) {
         return load_lone(alloc, frames, (frame, offset), size);

@@ -80,7 +80,8 @@ impl<'a> AMem<'a> {
         requires func { func < length self.old.running }
         ensures checked { OnOk result (self.new.checked ≡ self.old.checked) }
         ensures kept { OnOk result (IsMemory self.new) }
-        ensures entered { OnOk result (memory_in self.new ≡ entered abstract_sets (rows_of self.old.checked) (memory_in self.old) func) }
+        ensures entered { OnOk result
+            (memory_in self.new ≡ entered abstract_sets (rows_of self.old.checked) (memory_in self.old) func) }
     {
         held_memories_are_those_of_the_rules();
         empty_frames(alloc, self.checked.frames(), func, &mut self.frames)?;
@@ -102,7 +103,9 @@ impl<'a> AMem<'a> {
     /// Whether the cell lies in its frame, which is active. Takes no memory.
     pub fn has_cell(&self, frame: u32, offset: u32, size: u32) -> bool
         requires { size ≤ 64 }
-        ensures { IsTrue result ↔ (tested (rows_of self.now.checked) (memory_in self.now).runs (Ptr frame offset) size ≡ Ok (frame, offset)) }
+        ensures { IsTrue result
+            ↔ (tested (rows_of self.now.checked) (memory_in self.now).runs (Ptr frame offset) size
+            ≡ Ok (frame, offset)) }
     {
         has_cell(
             self.checked.frames(),
@@ -124,9 +127,14 @@ impl<'a> AMem<'a> {
         requires kept { IsMemory self.now }
         requires address { IsValue 32 at.now }
         requires size { IsCellSize size }
-        ensures value { IfOk result (λ loaded. loaded.0 ≡ joined_values abstract_sets None (load_at (rows_of self.now.checked) (memory_in self.now) at.now size)) }
+        ensures value { IfOk result
+            (λ loaded. loaded.0
+            ≡ joined_values abstract_sets None (load_at (rows_of self.now.checked) (memory_in self.now) at.now size)) }
         ensures sized { IfOk result (λ loaded. IfSome loaded.0 (IsValue size)) }
-        ensures faults { IfOk result (λ loaded. (fault : RunFault) → (has_fault loaded.1 fault ≡ true) ↔ IsLoadFault (rows_of self.now.checked) (memory_in self.now) at.now size fault) }
+        ensures faults { IfOk result
+            (λ loaded. (fault : RunFault)
+            → (has_fault loaded.1 fault ≡ true)
+            ↔ IsLoadFault (rows_of self.now.checked) (memory_in self.now) at.now size fault) }
     {
         load_through(
             alloc,
@@ -148,9 +156,15 @@ impl<'a> AMem<'a> {
     ) -> Result<(Option<AVal>, FaultSet), AllocError>
         requires kept { IsMemory self.now }
         requires size { IsCellSize size }
-        ensures value { IfOk result (λ loaded. loaded.0 ≡ joined_values abstract_sets None (load_at (rows_of self.now.checked) (memory_in self.now) (pointer_to frame offset) size)) }
+        ensures value { IfOk result
+            (λ loaded. loaded.0
+            ≡ joined_values abstract_sets None
+            (load_at (rows_of self.now.checked) (memory_in self.now) (pointer_to frame offset) size)) }
         ensures sized { IfOk result (λ loaded. IfSome loaded.0 (IsValue size)) }
-        ensures faults { IfOk result (λ loaded. (fault : RunFault) → (has_fault loaded.1 fault ≡ true) ↔ IsLoadFault (rows_of self.now.checked) (memory_in self.now) (pointer_to frame offset) size fault) }
+        ensures faults { IfOk result
+            (λ loaded. (fault : RunFault)
+            → (has_fault loaded.1 fault ≡ true)
+            ↔ IsLoadFault (rows_of self.now.checked) (memory_in self.now) (pointer_to frame offset) size fault) }
     {
         load_from(
             alloc,
@@ -179,9 +193,15 @@ impl<'a> AMem<'a> {
         requires value { IsValue size value.now }
         ensures checked { OnOk result (self.new.checked ≡ self.old.checked) }
         ensures kept { OnOk result (IsMemory self.new) }
-        ensures stored { OnOk result (memory_in self.new ≡ stored_at (rows_of self.old.checked) (memory_in self.old) at.now size value.now) }
-        ensures goes_on { IfOk result (λ stored. IsTrue stored.0 ↔ (cells_of (rows_of self.old.checked) (memory_in self.old).runs at.now.places size ≢ [])) }
-        ensures faults { IfOk result (λ stored. (fault : RunFault) → (has_fault stored.1 fault ≡ true) ↔ IsAddressFault (rows_of self.old.checked) (memory_in self.old).runs at.now size fault) }
+        ensures stored { OnOk result
+            (memory_in self.new ≡ stored_at (rows_of self.old.checked) (memory_in self.old) at.now size value.now) }
+        ensures goes_on { IfOk result
+            (λ stored. IsTrue stored.0
+            ↔ (cells_of (rows_of self.old.checked) (memory_in self.old).runs at.now.places size ≢ [])) }
+        ensures faults { IfOk result
+            (λ stored. (fault : RunFault)
+            → (has_fault stored.1 fault ≡ true)
+            ↔ IsAddressFault (rows_of self.old.checked) (memory_in self.old).runs at.now size fault) }
     {
         store_through(
             alloc,
@@ -208,9 +228,18 @@ impl<'a> AMem<'a> {
         requires value { IsValue size value.now }
         ensures checked { OnOk result (self.new.checked ≡ self.old.checked) }
         ensures kept { OnOk result (IsMemory self.new) }
-        ensures stored { OnOk result (memory_in self.new ≡ stored_at (rows_of self.old.checked) (memory_in self.old) (pointer_to frame offset) size value.now) }
-        ensures goes_on { IfOk result (λ stored. IsTrue stored.0 ↔ (cells_of (rows_of self.old.checked) (memory_in self.old).runs (pointer_to frame offset).places size ≢ [])) }
-        ensures faults { IfOk result (λ stored. (fault : RunFault) → (has_fault stored.1 fault ≡ true) ↔ IsAddressFault (rows_of self.old.checked) (memory_in self.old).runs (pointer_to frame offset) size fault) }
+        ensures stored { OnOk result
+            (memory_in self.new
+            ≡ stored_at (rows_of self.old.checked) (memory_in self.old) (pointer_to frame offset) size value.now) }
+        ensures goes_on { IfOk result
+            (λ stored. IsTrue stored.0
+            ↔ (cells_of (rows_of self.old.checked) (memory_in self.old).runs (pointer_to frame offset).places size
+            ≢ [])) }
+        ensures faults { IfOk result
+            (λ stored. (fault : RunFault)
+            → (has_fault stored.1 fault ≡ true)
+            ↔ IsAddressFault (rows_of self.old.checked) (memory_in self.old).runs (pointer_to frame offset) size
+            fault) }
     {
         store_to(
             alloc,
@@ -239,7 +268,9 @@ impl<'a> AMem<'a> {
         requires value { value.size ≡ size }
         ensures checked { OnOk result (self.new.checked ≡ self.old.checked) }
         ensures kept { OnOk result (IsMemory self.new) }
-        ensures pinned { OnOk result (memory_in self.new ≡ pinned_at abstract_sets (memory_in self.old) (frame, offset) size (alone (Words value))) }
+        ensures pinned { OnOk result
+            (memory_in self.new
+            ≡ pinned_at abstract_sets (memory_in self.old) (frame, offset) size (alone (Words value))) }
     {
         // Brings in that their progression has its stride and small numbers.
         let _ = value.numbers();

@@ -121,9 +121,16 @@ fn store_lone(
     requires size { IsCellSize size }
     requires value { IsValue size value.now }
     requires fits { Fits (map length frames.old) size cell }
-    ensures changes { OnOk result ((rows : List FrameShape) (runs : ℕ → Bool) (at : AbstractValue) → IsOnlyCell rows runs at size cell → Changes frames.old frames.new (λ m. stored abstract_sets m (cells_of rows runs at.places size) size value.now)) }
-    ensures goes_on { IfOk result (λ stored. (rows : List FrameShape) (runs : ℕ → Bool) (at : AbstractValue) → IsOnlyCell rows runs at size cell → IsTrue stored.0 ↔ (cells_of rows runs at.places size ≢ [])) }
-    ensures faults { IfOk result (λ stored. (rows : List FrameShape) (runs : ℕ → Bool) (at : AbstractValue) → IsOnlyCell rows runs at size cell → (fault : RunFault) → (has_fault stored.1 fault ≡ true) ↔ IsAddressFault rows runs at size fault) }
+    ensures changes { OnOk result
+        ((rows : List FrameShape) (runs : ℕ → Bool) (at : AbstractValue) → IsOnlyCell rows runs at size cell
+        → Changes frames.old frames.new
+        (λ m. stored abstract_sets m (cells_of rows runs at.places size) size value.now)) }
+    ensures goes_on { IfOk result
+        (λ stored. (rows : List FrameShape) (runs : ℕ → Bool) (at : AbstractValue) → IsOnlyCell rows runs at size cell
+        → IsTrue stored.0 ↔ (cells_of rows runs at.places size ≢ [])) }
+    ensures faults { IfOk result
+        (λ stored. (rows : List FrameShape) (runs : ℕ → Bool) (at : AbstractValue) → IsOnlyCell rows runs at size cell
+        → (fault : RunFault) → (has_fault stored.1 fault ≡ true) ↔ IsAddressFault rows runs at size fault) }
 {
     store_in(alloc, frames, cell, size, value)?;
     Ok((true, FaultSet::none()))
@@ -140,7 +147,8 @@ pub(crate) fn pin_in(
     requires size { IsCellSize size }
     requires words { IsValue size (alone (Words words)) }
     requires fits { Fits (map length frames.old) size cell }
-    ensures { OnOk result (Changes frames.old frames.new (λ m. pinned_at abstract_sets m cell size (alone (Words words)))) }
+    ensures { OnOk result
+        (Changes frames.old frames.new (λ m. pinned_at abstract_sets m cell size (alone (Words words)))) }
 {
     held_memories_are_those_of_the_rules();
     let (frame, offset) = cell;
@@ -164,9 +172,16 @@ pub(crate) fn store_through(
     requires value { IsValue size value.now }
     requires lengths { map length frames.old ≡ map bytes_in (shapes_of rows.now) }
     requires sized { AreSized frames.old }
-    ensures changes { OnOk result (Changes frames.old frames.new (λ m. stored abstract_sets m (cells_of (shapes_of rows.now) (runs_in running.now) at.now.places size) size value.now)) }
-    ensures goes_on { IfOk result (λ stored. IsTrue stored.0 ↔ (cells_of (shapes_of rows.now) (runs_in running.now) at.now.places size ≢ [])) }
-    ensures faults { IfOk result (λ stored. (fault : RunFault) → (has_fault stored.1 fault ≡ true) ↔ IsAddressFault (shapes_of rows.now) (runs_in running.now) at.now size fault) }
+    ensures changes { OnOk result
+        (Changes frames.old frames.new
+        (λ m. stored abstract_sets m (cells_of (shapes_of rows.now) (runs_in running.now) at.now.places size) size
+        value.now)) }
+    ensures goes_on { IfOk result
+        (λ stored. IsTrue stored.0 ↔ (cells_of (shapes_of rows.now) (runs_in running.now) at.now.places size ≢ [])) }
+    ensures faults { IfOk result
+        (λ stored. (fault : RunFault)
+        → (has_fault stored.1 fault ≡ true)
+        ↔ IsAddressFault (shapes_of rows.now) (runs_in running.now) at.now size fault) }
 {
     if let Some(cell) = lone_cell(rows, running, at, size) {
         return store_lone(alloc, frames, cell, size, value);
@@ -193,9 +208,17 @@ pub(crate) fn store_to(
     requires value { IsValue size value.now }
     requires lengths { map length frames.old ≡ map bytes_in (shapes_of rows.now) }
     requires sized { AreSized frames.old }
-    ensures changes { OnOk result (Changes frames.old frames.new (λ m. stored abstract_sets m (cells_of (shapes_of rows.now) (runs_in running.now) (pointer_to frame offset).places size) size value.now)) }
-    ensures goes_on { IfOk result (λ stored. IsTrue stored.0 ↔ (cells_of (shapes_of rows.now) (runs_in running.now) (pointer_to frame offset).places size ≢ [])) }
-    ensures faults { IfOk result (λ stored. (fault : RunFault) → (has_fault stored.1 fault ≡ true) ↔ IsAddressFault (shapes_of rows.now) (runs_in running.now) (pointer_to frame offset) size fault) }
+    ensures changes { OnOk result
+        (Changes frames.old frames.new
+        (λ m. stored abstract_sets m
+        (cells_of (shapes_of rows.now) (runs_in running.now) (pointer_to frame offset).places size) size value.now)) }
+    ensures goes_on { IfOk result
+        (λ stored. IsTrue stored.0
+        ↔ (cells_of (shapes_of rows.now) (runs_in running.now) (pointer_to frame offset).places size ≢ [])) }
+    ensures faults { IfOk result
+        (λ stored. (fault : RunFault)
+        → (has_fault stored.1 fault ≡ true)
+        ↔ IsAddressFault (shapes_of rows.now) (runs_in running.now) (pointer_to frame offset) size fault) }
 {
     if has_cell(rows, running, frame, offset, size) {
         return store_lone(alloc, frames, (frame, offset), size, value);

@@ -14,18 +14,21 @@ first_mapped f (suc n) [] = []
 first_mapped f (suc n) (x ∷ xs) = f x ∷ first_mapped f n xs
 
 -- the next member is as it was
-pub not_yet : (A : Type 0) (f : A → A) (n : ℕ) (xs : List A) (d : A) → n < length xs → get_or (first_mapped f n xs) n d ≡ get_or xs n d
+pub not_yet : (A : Type 0) (f : A → A) (n : ℕ) (xs : List A) (d : A) → n < length xs
+    → get_or (first_mapped f n xs) n d ≡ get_or xs n d
 not_yet A f zero xs d low = refl
 not_yet A f (suc n) [] d low = absurd (omega (arith, low))
 not_yet A f (suc n) (x ∷ xs) d low = not_yet A f n xs d (omega (arith, low))
 
-set_next : (A : Type 0) (f : A → A) (n : ℕ) (xs : List A) (d : A) → n < length xs → slice_set (first_mapped f n xs) n (f (get_or xs n d)) ≡ first_mapped f (suc n) xs
+set_next : (A : Type 0) (f : A → A) (n : ℕ) (xs : List A) (d : A) → n < length xs
+    → slice_set (first_mapped f n xs) n (f (get_or xs n d)) ≡ first_mapped f (suc n) xs
 set_next A f n [] d low = absurd (omega (arith, low))
 set_next A f zero (x ∷ xs) d low = refl
 set_next A f (suc n) (x ∷ xs) d low = ap (λ (ys : List A). f x ∷ ys) (set_next A f n xs d (omega (arith, low)))
 
 -- one member more
-pub next_mapped : (A : Type 0) (f : A → A) (n : ℕ) (old now : List A) (d after : A) → n < length old → now ≡ first_mapped f n old → after ≡ f (get_or now n d) → slice_set now n after ≡ first_mapped f (n + 1) old
+pub next_mapped : (A : Type 0) (f : A → A) (n : ℕ) (old now : List A) (d after : A) → n < length old
+    → now ≡ first_mapped f n old → after ≡ f (get_or now n d) → slice_set now n after ≡ first_mapped f (n + 1) old
 next_mapped A f n old now d after low so_far is =
     let member : after ≡ f (get_or old n d) = is ∙ ap (λ (xs : List A). f (get_or xs n d)) so_far ∙ ap f (not_yet A f n old d low) in
     let e : suc n ≡ n + 1 = omega arith in

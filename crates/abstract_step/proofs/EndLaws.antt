@@ -52,19 +52,23 @@ use Rattle.abstract_step.specs.Standing.{HereParts, place_of, path_at, function_
 use Rattle.abstract_step.specs.Turns.{seen_point, numbered_arm, IsTurn}
 
 -- where a block ends so, its node leads to where this leads
-pub stands_leads : (here : HereParts) (block : ℕ) (ending : BlockEnding) → StandsAt here block ending → (goal : Goal) → EndLeads (seen here.checked) (path_at here) block (Some ending) goal
+pub stands_leads : (here : HereParts) (block : ℕ) (ending : BlockEnding) → StandsAt here block ending → (goal : Goal)
+    → EndLeads (seen here.checked) (path_at here) block (Some ending) goal
     → Leads (seen here.checked) (place_of here) goal
 stands_leads here block ending stands goal leads =
     subst (λ (o : Option ℕ). PlaceLeads (seen here.checked) (path_at here) o goal) (sym stands.at)
     (subst (λ (o : Option BlockEnding). EndLeads (seen here.checked) (path_at here) block o goal) (sym stands.ends) leads)
 
 -- the block is one of the function
-pub block_low : (here : HereParts) (block : ℕ) → IsPlaced (seen here.checked) (place_of here) → (place_of here).block ≡ Some block
+pub block_low : (here : HereParts) (block : ℕ) → IsPlaced (seen here.checked) (place_of here)
+    → (place_of here).block ≡ Some block
     → (function_here here < length (seen here.checked).funcs) × (block < length (blocks_at (seen here.checked) (function_here here)))
 block_low here block placed at = (placed.function, subst (HasBlock (seen here.checked) (function_here here)) at placed.block)
 
 -- it ends as the program says
-pub stands_at : (here : HereParts) (block func : ℕ) (row : NumberedBlock) → IsKept (seen here.checked) → IsPlaced (seen here.checked) (place_of here) → func ≡ function_here here → (place_of here).block ≡ Some block → slice_get (blocks_at (seen here.checked) func) block ≡ Some row
+pub stands_at : (here : HereParts) (block func : ℕ) (row : NumberedBlock) → IsKept (seen here.checked)
+    → IsPlaced (seen here.checked) (place_of here) → func ≡ function_here here → (place_of here).block ≡ Some block
+    → slice_get (blocks_at (seen here.checked) func) block ≡ Some row
     → KeepsBlock (seen here.checked) func block row → StandsAt here block row.ending
 stands_at here block func row kept placed is at found keeps = record {
   kept = kept;
@@ -95,14 +99,16 @@ values_left here memory es o vs given faults own some items found =
 -- ---- what keeps the rules
 
 -- statements keep the rules
-pub each_typed : (table : List FrameRow) (k : ℕ) (ss : List NumberedStatement) → All (KeepsStatement table k) ss → AllByRecursion IsTypedStatement ss
+pub each_typed : (table : List FrameRow) (k : ℕ) (ss : List NumberedStatement) → All (KeepsStatement table k) ss
+    → AllByRecursion IsTypedStatement ss
 each_typed table k [] keep = tt
 each_typed table k (s ∷ ss) keep = (
   record { table = table; function = k; keeps = All-head (KeepsStatement table k) s ss keep },
   each_typed table k ss (All-tail (KeepsStatement table k) s ss keep),
 )
 
-arguments_have : (table : List FrameRow) (k : ℕ) (args : List ℕ) (es : List NumberedExpression) → AllZip (ArgumentKeeps table k) args es → AllByRecursion IsTyped es
+arguments_have : (table : List FrameRow) (k : ℕ) (args : List ℕ) (es : List NumberedExpression)
+    → AllZip (ArgumentKeeps table k) args es → AllByRecursion IsTyped es
 arguments_have table k [] [] keep = tt
 arguments_have table k [] (e ∷ es) keep = absurd keep
 arguments_have table k (f ∷ args) [] keep = absurd keep
@@ -112,7 +118,8 @@ arguments_have table k (f ∷ args) (e ∷ es) keep = (
 )
 
 -- arguments have sizes
-pub arguments_typed : (here : HereParts) (f : ℕ) (args : List NumberedExpression) → IsCallAt here f args → AllByRecursion IsTyped args
+pub arguments_typed : (here : HereParts) (f : ℕ) (args : List NumberedExpression) → IsCallAt here f args
+    → AllByRecursion IsTyped args
 arguments_typed here f args call =
     let keep = call.stands.keeps in arguments_have (seen here.checked).frames (function_here here) keep.function.args args keep.args_keep
 
@@ -142,15 +149,18 @@ returned_taken here block e m v faults stands sized found = go (path_at here) st
     cell f None gives = absurd gives
     cell f (Some to) gives = gives
 
-    row_of : (f b : ℕ) → ending_at program f b ≡ Some (Return (Some e)) → (row : NumberedBlock) × (slice_get (blocks_at program f) b ≡ Some row) × (row.ending ≡ Return (Some e))
+    row_of : (f b : ℕ) → ending_at program f b ≡ Some (Return (Some e))
+        → (row : NumberedBlock) × (slice_get (blocks_at program f) b ≡ Some row) × (row.ending ≡ Return (Some e))
     row_of f b ends = found_in (slice_get (blocks_at program f) b) refl ends
       where
-        found_in : (o : Option NumberedBlock) → slice_get (blocks_at program f) b ≡ o → option_map (λ (r : NumberedBlock). r.ending) o ≡ Some (Return (Some e))
+        found_in : (o : Option NumberedBlock) → slice_get (blocks_at program f) b ≡ o
+            → option_map (λ (r : NumberedBlock). r.ending) o ≡ Some (Return (Some e))
             → (row : NumberedBlock) × (slice_get (blocks_at program f) b ≡ Some row) × (row.ending ≡ Return (Some e))
         found_in None at same = absurd (cc)
         found_in (Some row) at same = (row, at, same_Some row.ending (Return (Some e)) same)
 
-    go : (path : List ℕ) → IsCallPath program path → ending_at program (function_at program path) block ≡ Some (Return (Some e)) → IsTaken path (Some v)
+    go : (path : List ℕ) → IsCallPath program path
+        → ending_at program (function_at program path) block ≡ Some (Return (Some e)) → IsTaken path (Some v)
     go [] calls ends = tt
     go (c ∷ path) calls ends =
         let back = back_of program stands.kept path c calls in
@@ -169,7 +179,8 @@ pub record Back (here : HereParts) (block : ℕ) (rest : List ℕ) : Type 0 wher
   pub there : block < length (blocks_at (seen here.checked) (function_at (seen here.checked) rest))
   pub leads : Leads (seen here.checked) (place_of here) (Some (block_node rest call.next))
 
-pub back_at : (here : HereParts) (block : ℕ) (rest : List ℕ) → GoesBackTo here block → path_at here ≡ block ∷ rest → Back here block rest
+pub back_at : (here : HereParts) (block : ℕ) (rest : List ℕ) → GoesBackTo here block → path_at here ≡ block ∷ rest
+    → Back here block rest
 back_at here block rest back cons =
     let program = seen here.checked in
     let keeps = back.returns.stands.kept in
@@ -185,10 +196,13 @@ back_at here block rest back cons =
     }
 
 -- the block that the call stands in ends with it
-pub end_there : (program : NumberedProgram) (f b : ℕ) (row : Block) (ending : BlockEnding) → slice_get (blocks_at program f) b ≡ Some (block_of row) → ending_at program f b ≡ Some ending → end_of row.end ≡ ending
+pub end_there : (program : NumberedProgram) (f b : ℕ) (row : Block) (ending : BlockEnding)
+    → slice_get (blocks_at program f) b ≡ Some (block_of row) → ending_at program f b ≡ Some ending
+    → end_of row.end ≡ ending
 end_there program f b row ending at ends = same_Some (end_of row.end) ending (sym (ap (option_map (λ (r : NumberedBlock). r.ending)) at) ∙ ends)
 
-pub is_call : (end : BlockEnd) (f next : ℕ) (args : List NumberedExpression) (to : Option (ℕ × ℕ)) → end_of end ≡ Call f args to next
+pub is_call : (end : BlockEnd) (f next : ℕ) (args : List NumberedExpression) (to : Option (ℕ × ℕ))
+    → end_of end ≡ Call f args to next
     → ((g : ℕ) (terms : Vec Term Global) (cell : Option (ℕ × ℕ)) (after : ℕ) → end ≡ ends.Call g terms cell after → ⊥) → ⊥
 is_call (ends.Fall n) f next args to same none = cc
 is_call (ends.Jump n) f next args to same none = cc
@@ -235,7 +249,8 @@ arms_lead here e targets others m v words faults points switch sized found of_wo
     (λ target among. inr (image (λ (t : ℕ × ℕ). t.1) targets target among)))
 
 -- their memories are of the program
-pub arms_own : (here : HereParts) (memory : MemoryParts) → IsOwn here.checked memory → (points : List (ℕ × MemoryParts)) → All (IsArmOf memory) points → All (λ (point : ℕ × MemoryParts). IsOwn here.checked point.1) points
+pub arms_own : (here : HereParts) (memory : MemoryParts) → IsOwn here.checked memory → (points : List (ℕ × MemoryParts))
+    → All (IsArmOf memory) points → All (λ (point : ℕ × MemoryParts). IsOwn here.checked point.1) points
 arms_own here memory own [] each = All-nil (λ (point : ℕ × MemoryParts). IsOwn here.checked point.1)
 arms_own here memory own (p ∷ ps) each =
     let first = All-head (IsArmOf memory) p ps each in
@@ -261,7 +276,8 @@ arms_turn here e targets others m v words faults points next of_words told same 
     seen_goals [] = refl
     seen_goals (p ∷ ps) = ap (λ (xs : List (ℕ × Mem abstract_sets)). seen_point (numbered_arm here p) ∷ xs) (seen_goals ps)
 
-    own_still : (ps : List (ℕ × MemoryParts)) → All (λ (arm : ℕ × MemoryParts). IsOwn here.checked arm.1) ps → All (λ (point : ℕ × MemoryParts). IsOwn here.checked point.1) (map (numbered_arm here) ps)
+    own_still : (ps : List (ℕ × MemoryParts)) → All (λ (arm : ℕ × MemoryParts). IsOwn here.checked arm.1) ps
+        → All (λ (point : ℕ × MemoryParts). IsOwn here.checked point.1) (map (numbered_arm here) ps)
     own_still [] each = All-nil (λ (point : ℕ × MemoryParts). IsOwn here.checked point.1)
     own_still (p ∷ ps) each = All-cons (λ (point : ℕ × MemoryParts). IsOwn here.checked point.1) (numbered_arm here p) (map (numbered_arm here) ps)
         (All-head (λ (point : ℕ × MemoryParts). IsOwn here.checked point.1) p ps each) (own_still ps (All-tail (λ (point : ℕ × MemoryParts). IsOwn here.checked point.1) p ps each))

@@ -64,7 +64,8 @@ pub range_whole : (row : InputRow) → IsRange row → IsProgression (from_to ro
 range_whole row range = is_from_to row.low row.high (pos 1) range.input.ordered (omega (arith, ints)) (by_one (row.high -ℤ row.low))
 
 -- as code makes it: of one number the step is 0
-pub range_up : (row : InputRow) (lo hi step : ℤ) → IsRange row → lo ≡ row.low → hi ≡ row.high → lo <ℤ hi → step ≡ pos 1 → IsProgression (record { lo = lo; hi = hi; step = step })
+pub range_up : (row : InputRow) (lo hi step : ℤ) → IsRange row → lo ≡ row.low → hi ≡ row.high → lo <ℤ hi → step ≡ pos 1
+    → IsProgression (record { lo = lo; hi = hi; step = step })
 range_up row lo hi step range low high up one =
     subst (λ (x : ℤ). IsProgression (record { lo = x; hi = hi; step = step })) (sym low)
     (subst (λ (y : ℤ). IsProgression (record { lo = row.low; hi = y; step = step })) (sym high)
@@ -73,7 +74,8 @@ range_up row lo hi step range low high up one =
     step_is : (if int_lt row.low row.high then pos 1 else pos 0) ≡ pos 1
     step_is = by_test (int_lt row.low row.high) (λ e. rw e refl) (λ e. absurd (omega (arith, ints, clamps, e, up, low, high)))
 
-pub range_one : (row : InputRow) (lo hi step : ℤ) → IsRange row → lo ≡ row.low → hi ≡ row.high → hi ≤ℤ lo → step ≡ pos 0 → IsProgression (record { lo = lo; hi = hi; step = step })
+pub range_one : (row : InputRow) (lo hi step : ℤ) → IsRange row → lo ≡ row.low → hi ≡ row.high → hi ≤ℤ lo → step ≡ pos 0
+    → IsProgression (record { lo = lo; hi = hi; step = step })
 range_one row lo hi step range low high down none =
     subst (λ (x : ℤ). IsProgression (record { lo = x; hi = hi; step = step })) (sym low)
     (subst (λ (y : ℤ). IsProgression (record { lo = row.low; hi = y; step = step })) (sym high)
@@ -85,7 +87,8 @@ range_one row lo hi step range low high down none =
 -- ---- one input
 
 -- its words have the size of a cell
-pub input_storable : (parts : MemoryParts) (row : InputRow) (v : AbstractValue) → HasInputRoom parts row → v ≡ alone (Words (range_of row)) → IsStorable v
+pub input_storable : (parts : MemoryParts) (row : InputRow) (v : AbstractValue) → HasInputRoom parts row
+    → v ≡ alone (Words (range_of row)) → IsStorable v
 input_storable parts row v room same = subst IsStorable (sym same) (record {
   size = row.size;
   cell = input_size row.size room.input.sized;
@@ -93,7 +96,8 @@ input_storable parts row v room same = subst IsStorable (sym same) (record {
 })
 
 -- its frame is active
-input_active : (parts : MemoryParts) (row : InputRow) (room : HasInputRoom parts row) → is_on (memory_in parts).runs room.input.row.owner ≡ true
+input_active : (parts : MemoryParts) (row : InputRow) (room : HasInputRoom parts row)
+    → is_on (memory_in parts).runs room.input.row.owner ≡ true
 input_active parts row room = elim room.input.may [
   | inl global ↦ ap (is_on (memory_in parts).runs) global
   | inr argument ↦
@@ -104,7 +108,8 @@ input_active parts row room = elim room.input.may [
 ]
 
 -- the cell lies in it
-pub input_there : (parts : MemoryParts) (row : InputRow) (v : AbstractValue) → HasInputRoom parts row → v ≡ alone (Words (range_of row))
+pub input_there : (parts : MemoryParts) (row : InputRow) (v : AbstractValue) → HasInputRoom parts row
+    → v ≡ alone (Words (range_of row))
     → IsCellAt (rows_of parts.checked) (memory_in parts).runs row.frame row.offset (width_of v)
 input_there parts row v room same =
     let shape : FrameRow → FrameShape = λ (r : FrameRow). record { owner = r.owner; bits = r.bits } in
@@ -119,7 +124,8 @@ input_there parts row v room same =
 -- ---- inputs in a row
 
 -- the first
-pub first_input : (parts : MemoryParts) (row : InputRow) (others rows : List InputRow) → rows ≡ row ∷ others → HaveInputRoom parts rows → HasInputRoom parts row
+pub first_input : (parts : MemoryParts) (row : InputRow) (others rows : List InputRow) → rows ≡ row ∷ others
+    → HaveInputRoom parts rows → HasInputRoom parts row
 first_input parts row others rows cons room = record {
   keeps = room.keeps;
   input = All-head (KeepsInput (seen parts.checked)) row others (subst (All (KeepsInput (seen parts.checked))) cons room.inputs);
@@ -127,7 +133,8 @@ first_input parts row others rows cons room = record {
 }
 
 -- and those that are left
-pub later_inputs : (parts new : MemoryParts) (row : InputRow) (others rows : List InputRow) → rows ≡ row ∷ others → new.checked ≡ parts.checked → (memory_in new).runs ≡ (memory_in parts).runs
+pub later_inputs : (parts new : MemoryParts) (row : InputRow) (others rows : List InputRow) → rows ≡ row ∷ others
+    → new.checked ≡ parts.checked → (memory_in new).runs ≡ (memory_in parts).runs
     → HaveInputRoom parts rows → HaveInputRoom new others
 later_inputs parts new row others rows cons same runs room = record {
   keeps = subst (λ (checked : CheckedParts). IsKept (seen checked)) (sym same) room.keeps;
@@ -140,7 +147,8 @@ later_inputs parts new row others rows cons same runs room = record {
 -- ---- starts
 
 -- room for inputs in the root
-pub inputs_room : (program : NumberedProgram) (before parts : MemoryParts) (rows : List InputRow) → IsKept program → KeepInputs program rows → seen parts.checked ≡ program → IsMemory before
+pub inputs_room : (program : NumberedProgram) (before parts : MemoryParts) (rows : List InputRow) → IsKept program
+    → KeepInputs program rows → seen parts.checked ≡ program → IsMemory before
     → memory_in parts ≡ entered_with program program.root [] (memory_in before) → HaveInputRoom parts rows
 inputs_room program before parts rows keeps inputs same is now =
     let root = function_there program keeps program.root keeps.root in
@@ -154,7 +162,8 @@ inputs_room program before parts rows keeps inputs same is now =
     }
 
 -- the memory after all
-pub start_is : (program : NumberedProgram) (rows : List InputRow) (one two three last : Mem abstract_sets) (root : ℕ) → root ≡ program.root → one ≡ fresh abstract_sets → two ≡ with_inits program.inits one
+pub start_is : (program : NumberedProgram) (rows : List InputRow) (one two three last : Mem abstract_sets) (root : ℕ)
+    → root ≡ program.root → one ≡ fresh abstract_sets → two ≡ with_inits program.inits one
     → three ≡ entered_with program root [] two → last ≡ with_inputs rows three → last ≡ first_memory program rows
 start_is program rows one two three last root is_root first second third fourth =
     fourth ∙ ap (with_inputs rows) (third ∙ ap (λ (f : ℕ). entered_with program f [] two) is_root ∙ ap (entered_with program program.root []) (second ∙ ap (with_inits program.inits) first))

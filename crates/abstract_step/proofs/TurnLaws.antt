@@ -19,10 +19,13 @@ use Rattle.abstract_step.specs.Standing.{HereParts}
 use Rattle.abstract_step.specs.Turns.{seen_point, IsTurn}
 
 -- memories of the program are those made of what they stand for
-pub own_made : (checked : CheckedParts) (parts : MemoryParts) → IsOwn checked parts → parts ≡ made checked (memory_in parts)
+pub own_made : (checked : CheckedParts) (parts : MemoryParts) → IsOwn checked parts
+    → parts ≡ made checked (memory_in parts)
 own_made checked parts own = sym (parts_are parts own.is) ∙ ap (λ (c : CheckedParts). made c (memory_in parts)) own.checked
 
-points_made : (checked : CheckedParts) (points : List (ℕ × MemoryParts)) → All (λ (point : ℕ × MemoryParts). IsOwn checked point.1) points → points ≡ map (made_at (made checked)) (map seen_point points)
+points_made : (checked : CheckedParts) (points : List (ℕ × MemoryParts))
+    → All (λ (point : ℕ × MemoryParts). IsOwn checked point.1) points
+    → points ≡ map (made_at (made checked)) (map seen_point points)
 points_made checked [] own = refl
 points_made checked (point ∷ points) own =
     let first = own_made checked point.1 (All-head (λ (p : ℕ × MemoryParts). IsOwn checked p.1) point points own) in
@@ -30,7 +33,8 @@ points_made checked (point ∷ points) own =
     ap (λ (parts : MemoryParts). (point.0, parts) ∷ points) first ∙ ap (λ (ps : List (ℕ × MemoryParts)). (point.0, made checked (memory_in point.1)) ∷ ps) rest
 
 -- and so are the points of a step
-pub turn_made : (here : HereParts) (next : List (ℕ × MemoryParts)) (faults : FaultSet) (r : Remains Goals) → IsTurn here next faults r
+pub turn_made : (here : HereParts) (next : List (ℕ × MemoryParts)) (faults : FaultSet) (r : Remains Goals)
+    → IsTurn here next faults r
     → next ≡ map (made_at (made here.checked)) (map (numbered_goal here.graph) (goals_left r.left))
 turn_made here next faults r is = points_made here.checked next is.own ∙ ap (map (made_at (made here.checked))) is.goals
 

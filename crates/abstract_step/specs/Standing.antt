@@ -49,7 +49,8 @@ pub record StandsAt (here : HereParts) (block : ℕ) (ending : BlockEnding) : Ty
   pub keeps : KeepsEnding (seen here.checked) (function_here here) block ending
 
 -- its block ends with this switch
-pub record IsSwitchAt (here : HereParts) (value : NumberedExpression) (targets : List (ℕ × ℕ)) (others : ℕ) : Type 0 where
+pub record IsSwitchAt (here : HereParts) (value : NumberedExpression) (targets : List (ℕ × ℕ))
+    (others : ℕ) : Type 0 where
   pub block : ℕ
   pub stands : StandsAt here block (Switch value targets others)
 

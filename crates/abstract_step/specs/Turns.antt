@@ -24,7 +24,8 @@ abbrev pub numbered_arm : HereParts → ℕ × MemoryParts → ℕ × MemoryPart
 numbered_arm here arm = (goal_number here.graph (Some (block_node (path_at here) arm.0)), arm.1)
 
 -- the next nodes with their memories and the faults are what remains
-pub record IsTurn (here : HereParts) (next : List (ℕ × MemoryParts)) (faults : FaultSet) (r : Remains Goals) : Type 0 where
+pub record IsTurn (here : HereParts) (next : List (ℕ × MemoryParts)) (faults : FaultSet)
+    (r : Remains Goals) : Type 0 where
   pub goals : map seen_point next ≡ map (numbered_goal here.graph) (goals_left r.left)
   pub same : faults ≡ r.faults
   pub own : All (λ (point : ℕ × MemoryParts). IsOwn here.checked point.1) next

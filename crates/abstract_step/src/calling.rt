@@ -32,8 +32,11 @@ pub(crate) fn call<'a>(
 ) -> Result<Stepped<AMem<'a>>, AllocError>
     requires stands { IsCallAt here.now func (map term_of args.now) }
     requires own { IsOwn here.now.checked memory }
-    ensures { (block next : ℕ) (to : Option (ℕ × ℕ)) → StandsAt here.now block (Call func (map term_of args.now) to next) → IfOk result (λ stepped. IsTurn here.now stepped.next.items stepped.faults
-        (goes_on (arguments_at (frames_of (seen here.now.checked)) (memory_in memory.entry) (map term_of args.now)) (call_to (seen here.now.checked) (path_at here.now) block func (memory_in memory.entry)))) }
+    ensures { (block next : ℕ) (to : Option (ℕ × ℕ))
+        → StandsAt here.now block (Call func (map term_of args.now) to next)
+        → IfOk result (λ stepped. IsTurn here.now stepped.next.items stepped.faults
+        (goes_on (arguments_at (frames_of (seen here.now.checked)) (memory_in memory.entry) (map term_of args.now))
+        (call_to (seen here.now.checked) (path_at here.now) block func (memory_in memory.entry)))) }
 {
     let (values, faults) = evaluate_arguments(alloc, &memory, args)?;
     match values {
@@ -55,8 +58,11 @@ fn go_in<'a>(
 ) -> Result<Stepped<AMem<'a>>, AllocError>
     requires call { FitCall (seen here.now.checked) func values.now }
     requires own { IsOwn here.now.checked memory }
-    ensures { (block next : ℕ) (args : List NumberedExpression) (to : Option (ℕ × ℕ)) → StandsAt here.now block (Call func args to next)
-        → IfOk result (λ stepped. IsTurn here.now stepped.next.items stepped.faults (call_to (seen here.now.checked) (path_at here.now) block func (memory_in memory.entry) values.now)) }
+    ensures { (block next : ℕ) (args : List NumberedExpression) (to : Option (ℕ × ℕ))
+        → StandsAt here.now block (Call func args to next)
+        → IfOk result
+        (λ stepped. IsTurn here.now stepped.next.items stepped.faults
+        (call_to (seen here.now.checked) (path_at here.now) block func (memory_in memory.entry) values.now)) }
 {
     let mut memory = memory;
     enter(alloc, &mut memory, here.checked(), func, values)?;

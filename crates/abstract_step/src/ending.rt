@@ -30,7 +30,9 @@ pub(crate) fn step_from<'a>(
     memory: AMem<'a>,
 ) -> Result<Stepped<AMem<'a>>, AllocError>
     requires own { IsOwn here.now.checked memory }
-    ensures { IfOk result (λ stepped. IsTurn here.now stepped.next.items stepped.faults (goals_from (seen here.now.checked) here.now.graph here.now.node (memory_in memory.entry))) }
+    ensures { IfOk result
+        (λ stepped. IsTurn here.now stepped.next.items stepped.faults
+        (goals_from (seen here.now.checked) here.now.graph here.now.node (memory_in memory.entry))) }
 {
     match here.at().block {
         None => to_node(alloc, here, Some(0), memory),
@@ -47,7 +49,9 @@ fn step_block<'a>(
 ) -> Result<Stepped<AMem<'a>>, AllocError>
     requires at { (place_of here.now).block ≡ Some block }
     requires own { IsOwn here.now.checked memory }
-    ensures { IfOk result (λ stepped. IsTurn here.now stepped.next.items stepped.faults (goals_from (seen here.now.checked) here.now.graph here.now.node (memory_in memory.entry))) }
+    ensures { IfOk result
+        (λ stepped. IsTurn here.now stepped.next.items stepped.faults
+        (goals_from (seen here.now.checked) here.now.graph here.now.node (memory_in memory.entry))) }
 {
     let row = here.checked().block(here.at().func, block);
     let mut memory = memory;
@@ -69,7 +73,9 @@ fn end_block<'a>(
 ) -> Result<Stepped<AMem<'a>>, AllocError>
     requires stands { StandsAt here.now block (end_of end.now) }
     requires own { IsOwn here.now.checked memory }
-    ensures { IfOk result (λ stepped. IsTurn here.now stepped.next.items stepped.faults (end_at (seen here.now.checked) (path_at here.now) block (end_of end.now) (memory_in memory.entry))) }
+    ensures { IfOk result
+        (λ stepped. IsTurn here.now stepped.next.items stepped.faults
+        (end_at (seen here.now.checked) (path_at here.now) block (end_of end.now) (memory_in memory.entry))) }
 {
     match end {
         BlockEnd::Fall(next) => to_node(alloc, here, Some(*next), memory),
@@ -94,7 +100,8 @@ fn give_back<'a>(
     requires stands { StandsAt here.now block (Return (Some (term_of term.now))) }
     requires own { IsOwn here.now.checked memory }
     ensures { IfOk result (λ stepped. IsTurn here.now stepped.next.items stepped.faults
-        (goes_on (value_at (frames_of (seen here.now.checked)) (memory_in memory.entry) (term_of term.now)) (λ v. leave_to (seen here.now.checked) (path_at here.now) (Some v) (memory_in memory.entry)))) }
+        (goes_on (value_at (frames_of (seen here.now.checked)) (memory_in memory.entry) (term_of term.now))
+        (λ v. leave_to (seen here.now.checked) (path_at here.now) (Some v) (memory_in memory.entry)))) }
 {
     let (value, faults) = evaluate(alloc, &memory, term)?;
     match value {

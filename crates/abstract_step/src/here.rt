@@ -88,7 +88,8 @@ impl<'p> Here<'p> {
 
     /// The number of the node with this block, or of the entry, to which the node leads.
     pub(crate) fn next(&self, block: Option<u32>) -> u32
-        ensures { (goal : Node) → Leads (seen self.now.checked) (place_of self.now) (Some goal) → goal.block ≡ block → result ≡ goal_number self.now.graph (Some goal) }
+        ensures { (goal : Node) → Leads (seen self.now.checked) (place_of self.now) (Some goal) → goal.block ≡ block
+            → result ≡ goal_number self.now.graph (Some goal) }
     {
         graphs_are_expansions();
         next_node(self.graph, self.firsts, self.node, block)
@@ -103,7 +104,8 @@ impl<'p> Here<'p> {
 
     /// The function of the nodes to which the node leads.
     pub(crate) fn next_func(&self) -> u32
-        ensures { (goal : Node) → Leads (seen self.now.checked) (place_of self.now) (Some goal) → result ≡ function_at (seen self.now.checked) goal.path }
+        ensures { (goal : Node) → Leads (seen self.now.checked) (place_of self.now) (Some goal)
+            → result ≡ function_at (seen self.now.checked) goal.path }
     {
         next_func(self.graph, self.firsts, self.node)
     }

@@ -33,7 +33,9 @@ pub(crate) fn leave<'a>(
     requires returns { IsReturnAt here.now }
     requires taken { IsTaken (path_at here.now) value }
     requires own { IsOwn here.now.checked memory }
-    ensures { IfOk result (λ stepped. IsTurn here.now stepped.next.items stepped.faults (leave_to (seen here.now.checked) (path_at here.now) value (memory_in memory.entry))) }
+    ensures { IfOk result
+        (λ stepped. IsTurn here.now stepped.next.items stepped.faults
+        (leave_to (seen here.now.checked) (path_at here.now) value (memory_in memory.entry))) }
 {
     let at = here.at();
     let mut memory = memory;
@@ -55,8 +57,11 @@ fn go_back<'a>(
     requires back { GoesBackTo here.now block }
     requires storable { IfSome value IsStorable }
     requires own { IsOwn here.now.checked memory }
-    ensures { (path : List ℕ) → path_at here.now ≡ block ∷ path → IfOk result (λ stepped. IsTurn here.now stepped.next.items stepped.faults
-        (back_to (frames_of (seen here.now.checked)) path (ending_at (seen here.now.checked) (function_at (seen here.now.checked) path) block) value (memory_in memory.entry))) }
+    ensures { (path : List ℕ) → path_at here.now ≡ block ∷ path
+        → IfOk result (λ stepped. IsTurn here.now stepped.next.items stepped.faults
+        (back_to (frames_of (seen here.now.checked)) path
+        (ending_at (seen here.now.checked) (function_at (seen here.now.checked) path) block) value
+        (memory_in memory.entry))) }
 {
     match &here.checked().block(here.next_func(), block).end {
         BlockEnd::Call {
@@ -83,7 +88,9 @@ fn store_result<'a>(
     requires storable { IfSome value IsStorable }
     requires own { IsOwn here.now.checked memory }
     ensures { (path : List ℕ) → Leads (seen here.now.checked) (place_of here.now) (Some (block_node path next))
-        → IfOk result (λ stepped. IsTurn here.now stepped.next.items stepped.faults (result_to (frames_of (seen here.now.checked)) path next to value (memory_in memory.entry))) }
+        → IfOk result
+        (λ stepped. IsTurn here.now stepped.next.items stepped.faults
+        (result_to (frames_of (seen here.now.checked)) path next to value (memory_in memory.entry))) }
 {
     match (to, value) {
         (Some(cell), Some(value)) => store_word(alloc, here, cell, next, &value, memory),
@@ -104,8 +111,11 @@ fn store_word<'a>(
 ) -> Result<Stepped<AMem<'a>>, AllocError>
     requires storable { IsStorable value.now }
     requires own { IsOwn here.now.checked memory }
-    ensures { (path : List ℕ) → Leads (seen here.now.checked) (place_of here.now) (Some (block_node path next)) → IfOk result (λ stepped. IsTurn here.now stepped.next.items stepped.faults
-        (goes_on (stored_through (frames_of (seen here.now.checked)) (memory_in memory.entry) (pointer_value cell.0 cell.1) value.now) (to_goal (Some (block_node path next))))) }
+    ensures { (path : List ℕ) → Leads (seen here.now.checked) (place_of here.now) (Some (block_node path next))
+        → IfOk result (λ stepped. IsTurn here.now stepped.next.items stepped.faults
+        (goes_on
+        (stored_through (frames_of (seen here.now.checked)) (memory_in memory.entry) (pointer_value cell.0 cell.1)
+        value.now) (to_goal (Some (block_node path next))))) }
 {
     let mut memory = memory;
     let (goes_on, faults) = store_at(alloc, &mut memory, cell.0, cell.1, value)?;

@@ -67,7 +67,8 @@ impl<'a> AlfStepper<'a> {
     ) -> Result<AlfStepper<'a>, AllocError>
         requires graph { IsGraph (seen checked.now) graph.now }
         requires rows { KeepInputs (seen checked.now) rows.now }
-        ensures { IfOk result (λ stepper. stepper ≡ record { checked = checked.now; graph = graph.now; rows = rows.now }) }
+        ensures { IfOk result
+            (λ stepper. stepper ≡ record { checked = checked.now; graph = graph.now; rows = rows.now }) }
     {
         let firsts = first_edges(alloc, graph)?;
         Ok(AlfStepper {

@@ -43,7 +43,9 @@ fn number_arm(here: &Here<'_>, arm: &mut (u32, AMem<'_>))
 
 /// The numbers of the nodes with these blocks, to which the node leads, in place of the blocks.
 fn number(here: &Here<'_>, arms: &mut [(u32, AMem<'_>)])
-    requires { All (λ arm. Leads (seen here.now.checked) (place_of here.now) (Some (block_node (path_at here.now) arm.0))) arms.old }
+    requires { All
+        (λ arm. Leads (seen here.now.checked) (place_of here.now) (Some (block_node (path_at here.now) arm.0)))
+        arms.old }
     ensures { arms.new ≡ map (numbered_arm here.now) arms.old }
 {
     for at in 0..arms.len() {
@@ -62,8 +64,11 @@ pub(crate) fn switch<'a>(
 ) -> Result<Stepped<AMem<'a>>, AllocError>
     requires stands { IsSwitchAt here.now (term_of term.now) targets.now others }
     requires own { IsOwn here.now.checked memory }
-    ensures { IfOk result (λ stepped. IsTurn here.now stepped.next.items stepped.faults (goes_on (value_at (frames_of (seen here.now.checked)) (memory_in memory.entry) (term_of term.now))
-        (switched (frames_of (seen here.now.checked)) (memory_in memory.entry) (term_of term.now) (path_at here.now) targets.now others))) }
+    ensures { IfOk result
+        (λ stepped. IsTurn here.now stepped.next.items stepped.faults
+        (goes_on (value_at (frames_of (seen here.now.checked)) (memory_in memory.entry) (term_of term.now))
+        (switched (frames_of (seen here.now.checked)) (memory_in memory.entry) (term_of term.now) (path_at here.now)
+        targets.now others))) }
 {
     let (value, faults) = evaluate(alloc, &memory, term)?;
     let Some(value) = value else {

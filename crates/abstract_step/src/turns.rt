@@ -51,7 +51,8 @@ pub(crate) fn to_node<'a>(
 ) -> Result<Stepped<AMem<'a>>, AllocError>
     requires own { IsOwn here.now.checked memory }
     ensures { (goal : Node) → Leads (seen here.now.checked) (place_of here.now) (Some goal) → goal.block ≡ block
-        → IfOk result (λ stepped. IsTurn here.now stepped.next.items stepped.faults (to_goal (Some goal) (memory_in memory.entry))) }
+        → IfOk result
+        (λ stepped. IsTurn here.now stepped.next.items stepped.faults (to_goal (Some goal) (memory_in memory.entry))) }
 {
     to_point(alloc, here.next(block), memory)
 }
@@ -63,7 +64,8 @@ pub(crate) fn to_end<'a>(
     memory: AMem<'a>,
 ) -> Result<Stepped<AMem<'a>>, AllocError>
     requires own { IsOwn here.now.checked memory }
-    ensures { IfOk result (λ stepped. IsTurn here.now stepped.next.items stepped.faults (to_goal None (memory_in memory.entry))) }
+    ensures { IfOk result
+        (λ stepped. IsTurn here.now stepped.next.items stepped.faults (to_goal None (memory_in memory.entry))) }
 {
     to_point(alloc, here.end(), memory)
 }

@@ -29,7 +29,8 @@ above_low : (over : ℕ → ℕ) (n : ℕ) (gs : List ℕ) → ((g : ℕ) → ov
 above_low over n [] low = omega arith
 above_low over n (g ∷ gs) low = let first = low g in let rest = above_low over n gs low in omega arith
 
-above_same : (over other : ℕ → ℕ) (gs : List ℕ) → ((g : ℕ) → Contains gs g → over g ≡ other g) → above over gs ≡ above other gs
+above_same : (over other : ℕ → ℕ) (gs : List ℕ) → ((g : ℕ) → Contains gs g → over g ≡ other g)
+    → above over gs ≡ above other gs
 above_same over other [] same = refl
 above_same over other (g ∷ gs) same =
     ap (λ (n : ℕ). max (suc n) (above over gs)) (same g (first_member g gs)) ∙ ap (max (suc (other g))) (above_same over other gs (λ h c. same h (further_member g gs h c)))
@@ -82,11 +83,13 @@ module _ (calls : List (List ℕ)) (within : CallsWithin calls) (falls : (f : �
     | inr same ↦ subst (λ (k : ℕ). Reaches calls k h) (sym same) (one f h call)
   ]
 
-  one_more : (marks : List Bool) (f : ℕ) → length marks ≡ length calls → f < length calls → (IsMarked marks f → ⊥) → marked_count (set marks f true) ≡ suc (marked_count marks)
+  one_more : (marks : List Bool) (f : ℕ) → length marks ≡ length calls → f < length calls → (IsMarked marks f → ⊥)
+      → marked_count (set marks f true) ≡ suc (marked_count marks)
   one_more marks f long low other = marked_set marks f (omega arith) (unmarked_is marks f other)
 
   -- where all but one are marked, the one calls none
-  calls_none : (marks : List Bool) (f : ℕ) → length marks ≡ length calls → length calls ≤ suc (marked_count marks) → AllReach marks f → f < length calls
+  calls_none : (marks : List Bool) (f : ℕ) → length marks ≡ length calls → length calls ≤ suc (marked_count marks)
+      → AllReach marks f → f < length calls
       → (IsMarked marks f → ⊥) → (h : ℕ) → Calls calls f h → ⊥
   calls_none marks f long enough reach low other h call =
       let more = one_more marks f long low other in
@@ -97,7 +100,8 @@ module _ (calls : List (List ℕ)) (within : CallsWithin calls) (falls : (f : �
       let few = few_marked (set all h true) in
       let count = length-set all h true in absurd (omega arith))
 
-  settled : (n : ℕ) (marks : List Bool) (f : ℕ) → length marks ≡ length calls → length calls ≤ suc (n + marked_count marks) → AllReach marks f → f < length calls
+  settled : (n : ℕ) (marks : List Bool) (f : ℕ) → length marks ≡ length calls
+      → length calls ≤ suc (n + marked_count marks) → AllReach marks f → f < length calls
       → depth calls n f ≡ depth calls (suc n) f
   settled zero marks f long enough reach low = by_mark marks f (λ is. absurd (falls f (reach f is)))
       (λ other. sym (above_none (depth calls zero) (get_or calls f []) (calls_none marks f long (omega arith) reach low other)))

@@ -91,7 +91,8 @@ no_size (Some size) e = absurd (false≢true e)
 module _ (whole : WholeProgram) (func : Function) (rows : List FrameRow) (k : ℕ) (frame : List ℕ → ℕ) (known : (name : List ℕ) → IsSeen whole func name → SeesFrame rows k (frame name)) where
   mutual
     -- an expression that names what stands somewhere has its size
-    pub sized : (t : NamedExpression) (size : ℕ) → PartsAreWritable t → SeesFrames whole func t → term_size t ≡ Some size → HasSize rows k size (with_frames frame t)
+    pub sized : (t : NamedExpression) (size : ℕ) → PartsAreWritable t → SeesFrames whole func t
+        → term_size t ≡ Some size → HasSize rows k size (with_frames frame t)
     sized (Number n) size written none is = subst (λ (z : ℕ). IsWordOf z n) (same_Some n.size size is) (word_of n written)
     sized (Address name offset) size written none is = record { same = same_Some 32 size is; offset_fits = written.offset; sees = known name none }
     sized (Load bits at) size written none is =
@@ -101,7 +102,8 @@ module _ (whole : WholeProgram) (func : Function) (rows : List FrameRow) (k : �
         let c = chosen (operands_fit op sizes 0 operands) (result_size op sizes) size is in
         record { result_is = c.1; sized = operator_sized op sizes size c.1; operands = each_sized operands op sizes 0 written.2 (ap is_some c.1) none c.0 }
 
-    each_sized : (ts : NamedExpressions) (op : Op) (sizes : List ℕ) (i : ℕ) → AllPartsAreWritable ts → IsSome (result_size op sizes) → SeesAllFrames whole func ts → operands_fit op sizes i ts ≡ true
+    each_sized : (ts : NamedExpressions) (op : Op) (sizes : List ℕ) (i : ℕ) → AllPartsAreWritable ts
+        → IsSome (result_size op sizes) → SeesAllFrames whole func ts → operands_fit op sizes i ts ≡ true
         → HaveSizes rows k (drop i (operand_sizes op sizes)) (all_with_frames frame ts)
     each_sized Empty op sizes i written typed none fits = rw (operands_end op sizes i typed (no_size (operand_size op sizes i) fits)) tt
     each_sized (With t ts) op sizes i written typed none fits =
@@ -115,7 +117,8 @@ number_low : (all : List Function) (name : List ℕ) → 0 < length all → func
 number_low all name some =
     by_option (λ o. IfSome o (λ k. k < length all) → unwrap_or o 0 < length all) (function_place all name) (λ e low. some) (λ k e low. low) (place_within _ all)
 
-called_low : (all : List Function) (item : BodyItem) (g : ℕ) → 0 < length all → Contains (called_by all item) g → g < length all
+called_low : (all : List Function) (item : BodyItem) (g : ℕ) → 0 < length all → Contains (called_by all item) g
+    → g < length all
 called_low all (Do (text.Call label args result)) g some c =
     first_or_further (func_number all label) [] g c (λ e. omega (arith, number_low all label some)) (no_member g)
 called_low all item g some c = no_member g c
@@ -137,7 +140,8 @@ pub record IsFirst (items : List BodyItem) (n : ℕ) (found : FirstReturn) : Typ
   pub at : slice_get items place ≡ Some (Do (text.Return value))
   pub is : found ≡ return_at (n + place) value
 
-pub first_from : (n : ℕ) (items : List BodyItem) (found : FirstReturn) → first_return_from n items ≡ Some found → IsFirst items n found
+pub first_from : (n : ℕ) (items : List BodyItem) (found : FirstReturn) → first_return_from n items ≡ Some found
+    → IsFirst items n found
 first_from n [] found e = absurd (none-some found e)
 first_from n (Do (text.Return value) ∷ items) found e =
     record {
@@ -153,7 +157,8 @@ first_from n (item ∷ items) found e =
 -- ---- returns and calls
 
 -- a member passes no test that none passes
-none_any : {A : Type 0} (test : ℕ → A → Bool) (n : ℕ) (xs : List A) (k m : ℕ) (x : A) → m ≡ n + k → any_from test n xs ≡ false → slice_get xs k ≡ Some x → test m x ≡ false
+none_any : {A : Type 0} (test : ℕ → A → Bool) (n : ℕ) (xs : List A) (k m : ℕ) (x : A) → m ≡ n + k
+    → any_from test n xs ≡ false → slice_get xs k ≡ Some x → test m x ≡ false
 none_any test n [] k m x is none at = absurd (none-some x at)
 none_any test n (y ∷ xs) zero m x is none at =
     let here = (or_parts (test n y) (any_from test (n + 1) xs) none).0 in let same = same_Some y x at in let e : m ≡ n = omega arith in cc
@@ -163,7 +168,8 @@ none_any test n (y ∷ xs) (suc k) m x is none at = none_any test (n + 1) xs k m
 before_other : (p m k i : ℕ) → is_before p m k i ≡ false → (p ≡ k → m ≡ i → ⊥) → is_before k i p m ≡ true
 before_other p m k i later other = grind (arith, nat_tests)
 
-pub record IsReturned (whole : WholeProgram) (k : ℕ) (func : Function) (j : ℕ) (value : Option NamedExpression) : Type 0 where
+pub record IsReturned (whole : WholeProgram) (k : ℕ) (func : Function) (j : ℕ)
+    (value : Option NamedExpression) : Type 0 where
   pub found : FirstReturn
   pub first : first_return func.items ≡ Some found
   pub size : ℕ
@@ -180,7 +186,8 @@ module _ (whole : WholeProgram) (none : HasNoFault whole) (p : ℕ) (called : Fu
       let found = stands named whole.funcs place.0 place.1 in
       place.1 ∙ ap Some (one_place (λ (f : Function). f.name) whole.funcs none.funcs_differ place.0 p found.member called found.at called_at (same_name found.member.name called.name found.passed))
 
-  pub is_returned : (j : ℕ) (value : Option NamedExpression) → slice_get called.items j ≡ Some (Do (text.Return value)) → IsReturned whole p called j value
+  pub is_returned : (j : ℕ) (value : Option NamedExpression) → slice_get called.items j ≡ Some (Do (text.Return value))
+      → IsReturned whole p called j value
   is_returned j value is =
       by_option (λ o. fits_return whole p called.name j o (return_size value) ≡ true → IsReturned whole p called j value) (first_return called.items) (λ first e. absurd (false≢true e))
       (λ found first e.
@@ -230,7 +237,8 @@ function_at whole first [] k n is = refl
 function_at whole first (func ∷ funcs) zero n is = ap (λ (z : ℕ). Some (numbered_function whole z func)) (let e : first ≡ n = omega arith in e)
 function_at whole first (func ∷ funcs) (suc k) n is = function_at whole (first + (length func.args + length func.decls)) funcs k n (omega arith)
 
-pub count_functions : (whole : WholeProgram) (first : ℕ) (funcs : List Function) → length (functions_from whole first funcs) ≡ length funcs
+pub count_functions : (whole : WholeProgram) (first : ℕ) (funcs : List Function)
+    → length (functions_from whole first funcs) ≡ length funcs
 count_functions whole first [] = refl
 count_functions whole first (func ∷ funcs) = ap suc (count_functions whole (first + (length func.args + length func.decls)) funcs)
 
@@ -240,7 +248,8 @@ block_in numbers n [] b m is = refl
 block_in numbers n (part ∷ parts) zero m is = ap (λ (z : ℕ). Some (numbered_block numbers (suc z) part)) (let e : n ≡ m = omega arith in e)
 block_in numbers n (part ∷ parts) (suc b) m is = block_in numbers (suc n) parts b m (omega arith)
 
-count_blocks : (numbers : Numbers) (n : ℕ) (parts : List (List BodyItem)) → length (numbered_blocks numbers n parts) ≡ length parts
+count_blocks : (numbers : Numbers) (n : ℕ) (parts : List (List BodyItem))
+    → length (numbered_blocks numbers n parts) ≡ length parts
 count_blocks numbers n [] = refl
 count_blocks numbers n (part ∷ parts) = ap suc (count_blocks numbers (suc n) parts)
 
@@ -252,7 +261,8 @@ return_end numbers next (Do (text.Return v)) value e = (v, refl, cc)
 return_end numbers next last value e = cc
 
 -- targets with numbers of their own
-targets_apart : (block : List ℕ → ℕ) (targets : List (Num × List ℕ)) → AllPairs (λ t u. t.0.bits ≢ u.0.bits) targets → AllPairs (λ s t. s.0 ≢ t.0) (numbered_targets block targets)
+targets_apart : (block : List ℕ → ℕ) (targets : List (Num × List ℕ)) → AllPairs (λ t u. t.0.bits ≢ u.0.bits) targets
+    → AllPairs (λ s t. s.0 ≢ t.0) (numbered_targets block targets)
 targets_apart block targets differ i j d low high same =
     let number : Num × List ℕ → ℕ × ℕ = λ target. (target.0.bits, block target.1) in
     let x = mapped_at number targets i (get_or (map number targets) i d) (slice_get-get_or (map number targets) i d (omega arith)) in
@@ -277,10 +287,12 @@ module _ (whole : WholeProgram) (root : List ℕ) (none : HasNoFault whole) (wri
   function k func = numbered_function whole (first_frame whole k) func
 
   -- function k of the program
-  there : (k : ℕ) (func : Function) → slice_get whole.funcs k ≡ Some func → slice_get program.funcs k ≡ Some (function k func)
+  there : (k : ℕ) (func : Function) → slice_get whole.funcs k ≡ Some func
+      → slice_get program.funcs k ≡ Some (function k func)
   there k func at = function_at whole (length whole.decls) whole.funcs k (first_frame whole k) refl ∙ ap (option_map (function k)) at
 
-  of_function : (k : ℕ) (f : NumberedFunction) → slice_get program.funcs k ≡ Some f → (func : Function) × (slice_get whole.funcs k ≡ Some func) × (function k func ≡ f)
+  of_function : (k : ℕ) (f : NumberedFunction) → slice_get program.funcs k ≡ Some f
+      → (func : Function) × (slice_get whole.funcs k ≡ Some func) × (function k func ≡ f)
   of_function k f at = some_image (function k) (slice_get whole.funcs k) f (sym (function_at whole (length whole.decls) whole.funcs k (first_frame whole k) refl) ∙ at)
 
   module _ (k : ℕ) (func : Function) (at : slice_get whole.funcs k ≡ Some func) where
@@ -302,7 +314,8 @@ module _ (whole : WholeProgram) (root : List ℕ) (none : HasNoFault whole) (wri
 
     -- ---- expressions
 
-    has_size : (t : NamedExpression) (size : ℕ) → PartsAreWritable t → SeesFrames whole func t → term_size t ≡ Some size → HasSize rows k size (term t)
+    has_size : (t : NamedExpression) (size : ℕ) → PartsAreWritable t → SeesFrames whole func t → term_size t ≡ Some size
+        → HasSize rows k size (term t)
     has_size t size = sized whole func rows k numbers.frame (sees whole k func at) t size
 
     -- an expression of whole bytes gives a cell
@@ -348,7 +361,8 @@ module _ (whole : WholeProgram) (root : List ℕ) (none : HasNoFault whole) (wri
 
     -- ---- returns
 
-    return_gives : (j : ℕ) (v : Option NamedExpression) (size : ℕ) → slice_get func.items j ≡ Some (Do (text.Return v)) → return_size v ≡ Some size → GivesSize rows k size (option_map term v)
+    return_gives : (j : ℕ) (v : Option NamedExpression) (size : ℕ) → slice_get func.items j ≡ Some (Do (text.Return v))
+        → return_size v ≡ Some size → GivesSize rows k size (option_map term v)
     return_gives j v size is =
         by_option (λ o. IfSome o ExpressionIsWritable → ((e : NamedExpression) → o ≡ Some e → SeesFrames whole func e) → return_size o ≡ Some size → GivesSize rows k size (option_map term o)) v
         (λ none w seen has. sym (same_Some 0 size has)) (λ t some w seen has. has_size t size w.parts (seen t refl) has)
@@ -361,7 +375,8 @@ module _ (whole : WholeProgram) (root : List ℕ) (none : HasNoFault whole) (wri
       found_size : found.size ≡ Some size
       gives : GivesSize rows k size value
 
-    block_return : (b : ℕ) (block : NumberedBlock) (value : Option NumberedExpression) → slice_get (function k func).blocks b ≡ Some block → block.ending ≡ Return value → GivesFirstSize value
+    block_return : (b : ℕ) (block : NumberedBlock) (value : Option NumberedExpression)
+        → slice_get (function k func).blocks b ≡ Some block → block.ending ≡ Return value → GivesFirstSize value
     block_return b block value is end = by_part (λ b block. (value : Option NumberedExpression) → block.ending ≡ Return value → GivesFirstSize value) (λ b part last part_at last_at among value end.
         let v = return_end numbers (suc b) last value end in
         let item = placed func.items last among ∙ ap Some v.1 in
@@ -389,7 +404,8 @@ module _ (whole : WholeProgram) (root : List ℕ) (none : HasNoFault whole) (wri
         record { size = size; cell = is_cell e size gives (eqb-true (size % 8) 0 (ap is_bytes (sym has) ∙ ok)); value_has = gives }
     gives_to number size i to first value has first_gives gives ok = absurd (false≢true ok)
 
-    result_fits : (to : Option (List ℕ × ℕ)) (number : List ℕ × ℕ → ℕ × ℕ) → ((found : FirstReturn) → first_return func.items ≡ Some found → agrees (is_some to) found ≡ true)
+    result_fits : (to : Option (List ℕ × ℕ)) (number : List ℕ × ℕ → ℕ × ℕ)
+        → ((found : FirstReturn) → first_return func.items ≡ Some found → agrees (is_some to) found ≡ true)
         → EachReturn (Gives rows k (option_map number to)) (function k func).blocks
     result_fits to number agree b block value is end =
         let r = block_return b block value is end in
@@ -400,7 +416,8 @@ module _ (whole : WholeProgram) (root : List ℕ) (none : HasNoFault whole) (wri
   module _ (k : ℕ) (func : Function) (at : slice_get whole.funcs k ≡ Some func) where
     -- ---- statements
 
-    keeps_statements : (i : ℕ) (item : BodyItem) → slice_get func.items i ≡ Some item → All (KeepsStatement rows k) (statements_by (numbers k func at).frame item)
+    keeps_statements : (i : ℕ) (item : BodyItem) → slice_get func.items i ≡ Some item
+        → All (KeepsStatement rows k) (statements_by (numbers k func at).frame item)
     keeps_statements i (Do text.Null) is = All-cons (KeepsStatement rows k) Null [] tt (All-nil (KeepsStatement rows k))
     keeps_statements i (Do (text.Store to value)) is =
         let item = (none.funcs k func at).items i (Do (text.Store to value)) is in
@@ -422,7 +439,8 @@ module _ (whole : WholeProgram) (root : List ℕ) (none : HasNoFault whole) (wri
     leads label among = omega (arith, block_within func.items label among, count_at k func at)
 
     -- a call is one of its function's calls, and leads to a lower rank
-    lower : (i : ℕ) (label : List ℕ) (args : List NamedExpression) (result : Option (List ℕ × ℕ)) → slice_get func.items i ≡ Some (Do (text.Call label args result))
+    lower : (i : ℕ) (label : List ℕ) (args : List NamedExpression) (result : Option (List ℕ × ℕ))
+        → slice_get func.items i ≡ Some (Do (text.Call label args result))
         → slice_index_or ranks (func_number whole.funcs label) 0 < slice_index_or ranks k 0
     lower i label args result is =
         let calls = λ (g : Function). flat_map (called_by whole.funcs) g.items in
@@ -431,7 +449,8 @@ module _ (whole : WholeProgram) (root : List ℕ) (none : HasNoFault whole) (wri
         has.ranked.falls k number (subst (λ (xs : List ℕ). Contains xs number) (sym row)
         (joined (called_by whole.funcs) func.items (Do (text.Call label args result)) number (contained func.items i (Do (text.Call label args result)) is) (first_member number [])))
 
-    keeps_call : (b i : ℕ) (label : List ℕ) (args : List NamedExpression) (result : Option (List ℕ × ℕ)) → slice_get func.items i ≡ Some (Do (text.Call label args result)) → GoesOn program k b (suc b)
+    keeps_call : (b i : ℕ) (label : List ℕ) (args : List NamedExpression) (result : Option (List ℕ × ℕ))
+        → slice_get func.items i ≡ Some (Do (text.Call label args result)) → GoesOn program k b (suc b)
         → KeepsEnding program k b (end_by (numbers k func at) (suc b) (Do (text.Call label args result)))
     keeps_call b i label args result is on =
         let item = (none.funcs k func at).items i (Do (text.Call label args result)) is in
@@ -477,7 +496,8 @@ module _ (whole : WholeProgram) (root : List ℕ) (none : HasNoFault whole) (wri
 
     -- ---- blocks
 
-    keeps_block : (b : ℕ) (block : NumberedBlock) → slice_get (function k func).blocks b ≡ Some block → KeepsBlock program k b block
+    keeps_block : (b : ℕ) (block : NumberedBlock) → slice_get (function k func).blocks b ≡ Some block
+        → KeepsBlock program k b block
     keeps_block = by_part k func at (KeepsBlock program k) (λ b part last part_at last_at among. record {
       statements = all_joined (KeepsStatement rows k) (statements_by (numbers k func at).frame) part
           (λ item c. let d = in_items func.items part (contained (blocks_of func.items) b part part_at) item c in keeps_statements d.0 item (placed func.items item d));
@@ -488,13 +508,15 @@ module _ (whole : WholeProgram) (root : List ℕ) (none : HasNoFault whole) (wri
     -- ---- calls
 
     -- what an item with this end calls
-    called_end : (next : ℕ) (item : BodyItem) (g : ℕ) → Contains (called_at (end_by (numbers k func at) next item)) g → IsCalled whole item g
+    called_end : (next : ℕ) (item : BodyItem) (g : ℕ) → Contains (called_at (end_by (numbers k func at) next item)) g
+        → IsCalled whole item g
     called_end next (Do (text.Call label args result)) g c =
         record { label = label; args = args; result = result; is = refl; number = first_or_further (func_number whole.funcs label) [] g c (λ e. e) (no_member g) }
     called_end next item g c = no_member g c
 
     -- a function that a block calls has a lower rank
-    block_falls : (b : ℕ) (block : NumberedBlock) → slice_get (function k func).blocks b ≡ Some block → (g : ℕ) → Contains (called_at block.ending) g → slice_index_or ranks g 0 < slice_index_or ranks k 0
+    block_falls : (b : ℕ) (block : NumberedBlock) → slice_get (function k func).blocks b ≡ Some block → (g : ℕ)
+        → Contains (called_at block.ending) g → slice_index_or ranks g 0 < slice_index_or ranks k 0
     block_falls = by_part k func at (λ b block. (g : ℕ) → Contains (called_at block.ending) g → slice_index_or ranks g 0 < slice_index_or ranks k 0) (λ b part last part_at last_at among g c.
         let call = called_end (suc b) last g c in
         subst (λ (f : ℕ). slice_index_or ranks f 0 < slice_index_or ranks k 0) call.number
@@ -567,7 +589,8 @@ module _ (whole : WholeProgram) (root : List ℕ) (none : HasNoFault whole) (wri
       let low : own.i < n = omega (arith, slice_get_within (own_frames own.func) own.i (frame_of row) own.own, length-append own.func.args own.func.decls) in
       record { function = function k own.func; at = there k own.func own.at; among = range_has (first_frame whole k) n own.i f low (omega arith) }
 
-  names_differ : (k j : ℕ) (f g : NumberedFunction) → slice_get program.funcs k ≡ Some f → slice_get program.funcs j ≡ Some g → f.name ≡ g.name → k ≡ j
+  names_differ : (k j : ℕ) (f g : NumberedFunction) → slice_get program.funcs k ≡ Some f
+      → slice_get program.funcs j ≡ Some g → f.name ≡ g.name → k ≡ j
   names_differ k j f g at other same =
       let x = of_function k f at in
       let y = of_function j g other in

@@ -34,11 +34,13 @@ use Rattle.alf_check.specs.Kept.{row_bytes, IsWordOf, KeepsFrame, IsSeen, SeesFr
 use Rattle.alf_check.proofs.KeptLemmas.{cell_from}
 
 -- it holds of a member if of each
-pub of_each : {A : Type 0} (Holds : A → Type 0) (xs : List A) (k : ℕ) (x : A) → All Holds xs → slice_get xs k ≡ Some x → Holds x
+pub of_each : {A : Type 0} (Holds : A → Type 0) (xs : List A) (k : ℕ) (x : A) → All Holds xs → slice_get xs k ≡ Some x
+    → Holds x
 of_each Holds xs k x all at = All-contains Holds xs x all (contained xs k x at)
 
 -- what holds of an option, by what it is
-pub by_option : {A : Type 0} (Holds : Option A → Type 0) (o : Option A) → (o ≡ None → Holds None) → ((x : A) → o ≡ Some x → Holds (Some x)) → Holds o
+pub by_option : {A : Type 0} (Holds : Option A → Type 0) (o : Option A) → (o ≡ None → Holds None)
+    → ((x : A) → o ≡ Some x → Holds (Some x)) → Holds o
 by_option Holds None none some = none refl
 by_option Holds (Some x) none some = some x refl
 
@@ -57,7 +59,8 @@ exactly n (Some k) e = ap Some (eqb-true k n e)
 -- ---- places of the first that passes
 
 -- where a member passes, there is a place
-pub first_place : {A : Type 0} (passes : A → Bool) (xs : List A) (x : A) → Contains xs x → passes x ≡ true → (i : ℕ) × (place_of passes xs ≡ Some i)
+pub first_place : {A : Type 0} (passes : A → Bool) (xs : List A) (x : A) → Contains xs x → passes x ≡ true
+    → (i : ℕ) × (place_of passes xs ≡ Some i)
 first_place passes xs x c e =
     let early : position_or_len passes xs < length xs = elim (cases_lt c.0 (position_or_len passes xs)) [
       | inl before ↦ absurd (false≢true (sym (fails_before_first passes xs c.0 x before) ∙ ap passes c.2 ∙ e))
@@ -89,7 +92,8 @@ at_right [] ys i m is = ap (slice_get ys) (omega arith)
 at_right (x ∷ xs) ys i zero is = absurd (omega arith)
 at_right (x ∷ xs) ys i (suc m) is = at_right xs ys i m (omega arith)
 
-pub at_cases : {A B : Type 0} (xs ys : List A) (m : ℕ) (x : A) → slice_get (xs ++ ys) m ≡ Some x → (slice_get xs m ≡ Some x → B) → ((i : ℕ) → m ≡ length xs + i → slice_get ys i ≡ Some x → B) → B
+pub at_cases : {A B : Type 0} (xs ys : List A) (m : ℕ) (x : A) → slice_get (xs ++ ys) m ≡ Some x
+    → (slice_get xs m ≡ Some x → B) → ((i : ℕ) → m ≡ length xs + i → slice_get ys i ≡ Some x → B) → B
 at_cases [] ys m x at left right = right m (omega arith) at
 at_cases (y ∷ xs) ys zero x at left right = left at
 at_cases (y ∷ xs) ys (suc m) x at left right = at_cases xs ys m x at left (λ i e there. right i (omega arith) there)
@@ -104,12 +108,14 @@ pub one_place : {A B : Type 0} (name : A → B) (xs : List A) → AllPairs (λ a
 one_place {A = A} name xs apart i j x y at there same =
     elim (cases_order i j) [ inl equal ↦ equal | inr other ↦ elim other [ inl low ↦ apart_at i j x y low at there same | inr low ↦ apart_at j i y x low there at (sym same) ] ]
   where
-    apart_at : {C : Type 0} (i j : ℕ) (x y : A) → i < j → slice_get xs i ≡ Some x → slice_get xs j ≡ Some y → name x ≡ name y → C
+    apart_at : {C : Type 0} (i j : ℕ) (x y : A) → i < j → slice_get xs i ≡ Some x → slice_get xs j ≡ Some y
+        → name x ≡ name y → C
     apart_at i j x y low at there same =
         absurd (apart i j x low (slice_get_within xs j y there) (ap name (get_or_from_slice_get xs i x x at) ∙ same ∙ sym (ap name (get_or_from_slice_get xs j y x there))))
 
 -- so too in two lists that have no name in common
-pub one_place_of_both : {A B : Type 0} (name : A → B) (xs ys : List A) → OnePlace name xs → OnePlace name ys → ((x y : A) → Contains xs x → Contains ys y → name x ≢ name y) → OnePlace name (xs ++ ys)
+pub one_place_of_both : {A B : Type 0} (name : A → B) (xs ys : List A) → OnePlace name xs → OnePlace name ys
+    → ((x y : A) → Contains xs x → Contains ys y → name x ≢ name y) → OnePlace name (xs ++ ys)
 one_place_of_both name xs ys left right other i j x y at there same =
     at_cases xs ys i x at
     (λ a. at_cases xs ys j y there (λ b. left i j x y a b same) (λ n e b. absurd (other x y (contained xs i x a) (contained ys n y b) same)))
@@ -139,7 +145,8 @@ abbrev pub frame_of : FrameRow → Allocation
 frame_of row = record { name = row.name; bits = row.bits }
 
 -- the rows of a function's frames come before those of the functions after it
-rows_split : (n : ℕ) (func : Function) (funcs : List Function) → rows_from n (func ∷ funcs) ≡ rows_of (Some n) (own_frames func) ++ rows_from (suc n) funcs
+rows_split : (n : ℕ) (func : Function) (funcs : List Function)
+    → rows_from n (func ∷ funcs) ≡ rows_of (Some n) (own_frames func) ++ rows_from (suc n) funcs
 rows_split n func funcs = rw (map-append (row_for (Some n)) func.args func.decls, append_assoc) refl
 
 of_owner : (owner : Option ℕ) (frames : List Allocation) → map frame_of (rows_of owner frames) ≡ frames
@@ -151,10 +158,13 @@ of_functions n [] = refl
 of_functions n (func ∷ funcs) =
     rw (rows_split n func funcs, map-append frame_of (rows_of (Some n) (own_frames func)) (rows_from (suc n) funcs), of_owner (Some n) (own_frames func), of_functions (suc n) funcs) refl
 
-own_count : (n : ℕ) (func : Function) → length (rows_of (Some n) (own_frames func)) ≡ length func.args + length func.decls
+own_count : (n : ℕ) (func : Function)
+    → length (rows_of (Some n) (own_frames func)) ≡ length func.args + length func.decls
 own_count n func = length-map (own_frames func) (row_for (Some n)) ∙ length-append func.args func.decls
 
-own_row : (n : ℕ) (funcs : List Function) (k i f m : ℕ) (func : Function) (frame : Allocation) → slice_get funcs k ≡ Some func → slice_get (own_frames func) i ≡ Some frame → f ≡ frames_before funcs k + i → m ≡ n + k
+own_row : (n : ℕ) (funcs : List Function) (k i f m : ℕ) (func : Function) (frame : Allocation)
+    → slice_get funcs k ≡ Some func → slice_get (own_frames func) i ≡ Some frame → f ≡ frames_before funcs k + i
+    → m ≡ n + k
     → slice_get (rows_from n funcs) f ≡ Some (row_for (Some m) frame)
 own_row n [] k i f m func frame at own place is = absurd (none-some func at)
 own_row n (first ∷ funcs) zero i f m func frame at own place is =
@@ -175,7 +185,8 @@ pub record IsOwnFrame (funcs : List Function) (k f : ℕ) (frame : Allocation) :
   pub own : slice_get (own_frames func) i ≡ Some frame
   pub place : f ≡ frames_before funcs k + i
 
-own_of : (n : ℕ) (funcs : List Function) (f : ℕ) (row : FrameRow) → slice_get (rows_from n funcs) f ≡ Some row → (k : ℕ) × (row.owner ≡ Some (n + k)) × IsOwnFrame funcs k f (frame_of row)
+own_of : (n : ℕ) (funcs : List Function) (f : ℕ) (row : FrameRow) → slice_get (rows_from n funcs) f ≡ Some row
+    → (k : ℕ) × (row.owner ≡ Some (n + k)) × IsOwnFrame funcs k f (frame_of row)
 own_of n [] f row at = absurd (none-some row at)
 own_of n (func ∷ funcs) f row at =
     let long = own_count n func in
@@ -212,7 +223,8 @@ module _ (whole : WholeProgram) where
       record { some = omega arith; most = omega arith; bytes = w.bytes })
 
   -- a row is that of a frame of its owner
-  pub is_frame : (owner : Option ℕ) (f : ℕ) (row : FrameRow) → slice_get (frame_rows whole) f ≡ Some row → row.owner ≡ owner → IsFrame whole owner f (frame_of row)
+  pub is_frame : (owner : Option ℕ) (f : ℕ) (row : FrameRow) → slice_get (frame_rows whole) f ≡ Some row
+      → row.owner ≡ owner → IsFrame whole owner f (frame_of row)
   is_frame owner f row at owned =
       subst (λ (o : Option ℕ). IsFrame whole o f (frame_of row)) owned (at_cases (rows_of None whole.decls) (rows_from 0 whole.funcs) f row at
       (λ here. let m = mapped_at (row_for None) whole.decls f row here in subst (λ (x : FrameRow). IsFrame whole x.owner f (frame_of x)) m.2 m.1)
@@ -240,21 +252,24 @@ module _ (whole : WholeProgram) where
         ∙ own_stand (length func.args + i) frame (at_right func.args func.decls i (length func.args + i) refl ∙ own)
 
 -- frames have as many bytes as their rows
-pub same_bytes : (rows : List FrameRow) (z : ℕ) → fold (λ a x. a + row_bytes x) z rows ≡ fold (λ a x. a + frame_bytes x) z (map frame_of rows)
+pub same_bytes : (rows : List FrameRow) (z : ℕ)
+    → fold (λ a x. a + row_bytes x) z rows ≡ fold (λ a x. a + frame_bytes x) z (map frame_of rows)
 same_bytes [] z = refl
 same_bytes (row ∷ rows) z = same_bytes rows (z + row_bytes row)
 
 -- ---- frames of one name
 
 module _ (whole : WholeProgram) (none : HasNoFault whole) where
-  own_apart : (k : ℕ) (func : Function) → slice_get whole.funcs k ≡ Some func → OnePlace (λ (z : Allocation). z.name) (own_frames func)
+  own_apart : (k : ℕ) (func : Function) → slice_get whole.funcs k ≡ Some func
+      → OnePlace (λ (z : Allocation). z.name) (own_frames func)
   own_apart k func at =
       let f = none.funcs k func at in
       let name = λ (z : Allocation). z.name in
       one_place_of_both name func.args func.decls (one_place name func.args f.args_differ) (one_place name func.decls f.decls_differ) (λ x y c d same. f.decls_apart y x d c same)
 
   -- a function's frame has no global frame's name
-  not_global : {A : Type 0} (k f g : ℕ) (a b : FrameRow) → IsFrame whole None f (frame_of a) → IsFrame whole (Some k) g (frame_of b) → a.name ≡ b.name → A
+  not_global : {A : Type 0} (k f g : ℕ) (a b : FrameRow) → IsFrame whole None f (frame_of a)
+      → IsFrame whole (Some k) g (frame_of b) → a.name ≡ b.name → A
   not_global k f g a b x y same =
       let own = y.2 in
       let n = none.funcs k own.func own.at in
@@ -263,7 +278,8 @@ module _ (whole : WholeProgram) (none : HasNoFault whole) where
       (Contains-append_cases own.func.args own.func.decls (frame_of b) (contained (own_frames own.func) own.i (frame_of b) own.own)))
 
   -- two frames that a function sees and that have one name are one
-  pub names_apart : (k f g : ℕ) (a b : FrameRow) → slice_get (frame_rows whole) f ≡ Some a → slice_get (frame_rows whole) g ≡ Some b → IsSeen k a → IsSeen k b → a.name ≡ b.name → f ≡ g
+  pub names_apart : (k f g : ℕ) (a b : FrameRow) → slice_get (frame_rows whole) f ≡ Some a
+      → slice_get (frame_rows whole) g ≡ Some b → IsSeen k a → IsSeen k b → a.name ≡ b.name → f ≡ g
   names_apart k f g a b at there (inl free) (inl free') same =
       one_place (λ (z : Allocation). z.name) whole.decls none.decls_differ f g (frame_of a) (frame_of b) (is_frame whole None f a at free) (is_frame whole None g b there free') same
   names_apart k f g a b at there (inl free) (inr own) same = not_global k f g a b (is_frame whole None f a at free) (is_frame whole (Some k) g b there own) same
@@ -278,7 +294,8 @@ module _ (whole : WholeProgram) (none : HasNoFault whole) where
 -- ---- numbers of names
 
 -- a name that one of the frames has, or what holds of the other number
-number_of : (Holds : ℕ → Type 0) (start : ℕ) (frames : List Allocation) (name : List ℕ) (other : ℕ) → ((i : ℕ) (frame : Allocation) → slice_get frames i ≡ Some frame → Holds (start + i))
+number_of : (Holds : ℕ → Type 0) (start : ℕ) (frames : List Allocation) (name : List ℕ) (other : ℕ)
+    → ((i : ℕ) (frame : Allocation) → slice_get frames i ≡ Some frame → Holds (start + i))
     → IsFrameNamed frames name ⊎ Holds other → Holds (unwrap_or (placed start frames name) other)
 number_of Holds start frames name other each known =
     let named = λ (frame : Allocation). bytes_eq frame.name name in
@@ -287,7 +304,8 @@ number_of Holds start frames name other each known =
     (λ i e. let s = stands named frames i e in each i s.member s.at)
 
 -- a name that stands for a frame in the function is that of one that it sees
-pub sees : (whole : WholeProgram) (k : ℕ) (func : Function) → slice_get whole.funcs k ≡ Some func → (name : List ℕ) → text.IsSeen whole func name
+pub sees : (whole : WholeProgram) (k : ℕ) (func : Function) → slice_get whole.funcs k ≡ Some func → (name : List ℕ)
+    → text.IsSeen whole func name
     → SeesFrame (frame_rows whole) k (frame_number whole.decls func.args func.decls (first_frame whole k) (first_frame whole k + length func.args) name)
 sees whole k func at name known =
     let Seen = SeesFrame (frame_rows whole) k in
@@ -304,13 +322,15 @@ word_of num written = record { same = refl; sized = record { some = written.some
 
 module _ (rows : List FrameRow) (owner : Option ℕ) (start : ℕ) (frames : List Allocation) (standing : StandAt rows owner start frames) where
   -- the number of the first frame of the name is that of its row
-  row_found : (name : List ℕ) (frame : Allocation) → frame_at frames (frame_place frames name) ≡ Some frame → slice_get rows (unwrap_or (placed start frames name) 0) ≡ Some (row_for owner frame)
+  row_found : (name : List ℕ) (frame : Allocation) → frame_at frames (frame_place frames name) ≡ Some frame
+      → slice_get rows (unwrap_or (placed start frames name) 0) ≡ Some (row_for owner frame)
   row_found name frame found =
       by_option (λ o. frame_at frames o ≡ Some frame → slice_get rows (unwrap_or (option_map (λ p. start + p) o) 0) ≡ Some (row_for owner frame)) (frame_place frames name)
       (λ e f. absurd (none-some frame f)) (λ i e f. standing i frame f) found
 
   -- what one of these frames holds at first lies in it
-  pub init_fits : (init : InitialValue) → InitHasNoFault frames init → InitialIsWritable init → InitFits rows owner (numbered_init start frames init)
+  pub init_fits : (init : InitialValue) → InitHasNoFault frames init → InitialIsWritable init
+      → InitFits rows owner (numbered_init start frames init)
   init_fits init none written =
       let parts = and_parts ((init.num.size % 8) == 0) (nat_le (8 * init.offset + init.num.size) none.frame.bits) none.fits in
       let word = word_of init.num written.num in
@@ -324,6 +344,7 @@ module _ (rows : List FrameRow) (owner : Option ℕ) (start : ℕ) (frames : Lis
       }
 
 -- an exported frame keeps the rules
-pub export_keeps : (whole : WholeProgram) (name : List ℕ) → ExportHasNoFault whole.decls name → KeepsExport (frame_rows whole) (export_number whole name)
+pub export_keeps : (whole : WholeProgram) (name : List ℕ) → ExportHasNoFault whole.decls name
+    → KeepsExport (frame_rows whole) (export_number whole name)
 export_keeps whole name none =
     record { row = row_for None none.frame; at = row_found (frame_rows whole) None 0 whole.decls (decls_stand whole) name none.frame none.found; owned = refl; sized = none.size }

@@ -20,7 +20,8 @@ pub record IsRootArgument (program : NumberedProgram) (f : ℕ) : Type 0 where
 abbrev pub ShareNoByte : InputRow → InputRow → Type 0
 ShareNoByte a b = a.frame ≡ b.frame → (8 * a.offset + a.size ≤ 8 * b.offset) ⊎ (8 * b.offset + b.size ≤ 8 * a.offset)
 
--- the cell has 8, 16, 32 or 64 bits and lies in its frame; the range is one of signed or unsigned words of the size, and has fewer than all of them and one
+-- the cell has 8, 16, 32 or 64 bits and lies in its frame; the range is one of signed or unsigned words of the size,
+-- and has fewer than all of them and one
 pub record KeepsInput (program : NumberedProgram) (input : InputRow) : Type 0 where
   pub row : FrameRow
   pub at : slice_get program.frames input.frame ≡ Some row

@@ -156,7 +156,8 @@ pub record TargetKeeps (program : NumberedProgram) (k size : ℕ) (target : ℕ 
   pub there : IsBlockOf program k target.1
 
 -- a switch has a value of some size, targets of this size with words that differ, and a block for all others
-pub record SwitchKeeps (program : NumberedProgram) (k : ℕ) (value : NumberedExpression) (targets : List (ℕ × ℕ)) (others : ℕ) : Type 0 where
+pub record SwitchKeeps (program : NumberedProgram) (k : ℕ) (value : NumberedExpression) (targets : List (ℕ × ℕ))
+    (others : ℕ) : Type 0 where
   pub size : ℕ
   pub value_has : HasSize program.frames k size value
   pub targets_keep : All (TargetKeeps program k size) targets
@@ -191,7 +192,8 @@ abbrev pub EachReturn : (Option NumberedExpression → Type 0) → List Numbered
 EachReturn Holds blocks = (b : ℕ) (block : NumberedBlock) (value : Option NumberedExpression) → slice_get blocks b ≡ Some block → block.ending ≡ Return value → Holds value
 
 -- a call is of a function that is there, with arguments for its frames, and takes what each of its returns gives
-pub record CallKeeps (program : NumberedProgram) (k b f : ℕ) (args : List NumberedExpression) (result : Option (ℕ × ℕ)) (next : ℕ) : Type 0 where
+pub record CallKeeps (program : NumberedProgram) (k b f : ℕ) (args : List NumberedExpression) (result : Option (ℕ × ℕ))
+    (next : ℕ) : Type 0 where
   pub function : NumberedFunction
   pub at : slice_get program.funcs f ≡ Some function
   pub args_keep : AllZip (ArgumentKeeps program.frames k) function.args args
@@ -249,8 +251,10 @@ pub record HasFrame (program : NumberedProgram) (k f : ℕ) : Type 0 where
 -- each frame has a size, is one of its owner's, and has a name of its own among those that a function sees
 pub record KeepsFrames (program : NumberedProgram) : Type 0 where
   pub each : All KeepsFrame program.frames
-  pub own : (f k : ℕ) (row : FrameRow) → slice_get program.frames f ≡ Some row → row.owner ≡ Some k → HasFrame program k f
-  pub names : (k f g : ℕ) (a b : FrameRow) → slice_get program.frames f ≡ Some a → slice_get program.frames g ≡ Some b → IsSeen k a → IsSeen k b → a.name ≡ b.name → f ≡ g
+  pub own : (f k : ℕ) (row : FrameRow) → slice_get program.frames f ≡ Some row → row.owner ≡ Some k
+      → HasFrame program k f
+  pub names : (k f g : ℕ) (a b : FrameRow) → slice_get program.frames f ≡ Some a → slice_get program.frames g ≡ Some b
+      → IsSeen k a → IsSeen k b → a.name ≡ b.name → f ≡ g
 
 -- the program is one that some text can spell and that passes the checks, with numbers in place of names
 pub record IsChecked (program : NumberedProgram) : Type 0 where
@@ -299,8 +303,10 @@ pub record IsKept (program : NumberedProgram) : Type 0 where
   pub bounded : IsBounded program
   pub limits : IsWithinLimits program
   pub frames : KeepsFrames program
-  pub functions : (k : ℕ) (function : NumberedFunction) → slice_get program.funcs k ≡ Some function → KeepsFunction program k function
-  pub names : (k j : ℕ) (f g : NumberedFunction) → slice_get program.funcs k ≡ Some f → slice_get program.funcs j ≡ Some g → f.name ≡ g.name → k ≡ j
+  pub functions : (k : ℕ) (function : NumberedFunction) → slice_get program.funcs k ≡ Some function
+      → KeepsFunction program k function
+  pub names : (k j : ℕ) (f g : NumberedFunction) → slice_get program.funcs k ≡ Some f
+      → slice_get program.funcs j ≡ Some g → f.name ≡ g.name → k ≡ j
   pub inits : All (InitFits program.frames None) program.inits
   pub exports : All (KeepsExport program.frames) program.exports
   pub root : program.root < length program.funcs

@@ -23,4 +23,5 @@ pub record AreParts (program : NumberedProgram) (f : ℕ) (parts : FuncParts) : 
   pub row : IsFunction program f parts.row
   pub blocks : blocks_at program f ≡ map block_of parts.blocks.items
   pub few : length parts.blocks.items < 4294967295
-  pub keep : (b : ℕ) (block : Block) → slice_get parts.blocks.items b ≡ Some block → KeepsBlock program f b (block_of block)
+  pub keep : (b : ℕ) (block : Block) → slice_get parts.blocks.items b ≡ Some block
+      → KeepsBlock program f b (block_of block)

@@ -18,7 +18,9 @@ use std::alloc::{AllocError, Global};
 
 /// The blocks of the items.
 pub fn blocks(alloc: Global, names: &Names<'_>, items: &[Item]) -> Result<Vec<Block>, AllocError>
-    ensures are { IfOk result (λ blocks. map block_of blocks.items ≡ numbered_blocks (numbers_of names.now) 0 (blocks_of (map item_of items.now))) }
+    ensures are { IfOk result
+        (λ blocks. map block_of blocks.items
+        ≡ numbered_blocks (numbers_of names.now) 0 (blocks_of (map item_of items.now))) }
     ensures few { IfOk result (λ blocks. length blocks.items < 4294967295) }
 {
     let mut blocks = Vec::new(alloc);
@@ -37,7 +39,8 @@ pub fn blocks(alloc: Global, names: &Names<'_>, items: &[Item]) -> Result<Vec<Bl
 
 // The block of these items, where the next one has this number.
 fn block(alloc: Global, names: &Names<'_>, next: u32, items: &[Item]) -> Result<Block, AllocError>
-    ensures { IfOk result (λ block. block_of block ≡ numbered_block (numbers_of names.now) next (map item_of items.now)) }
+    ensures { IfOk result
+        (λ block. block_of block ≡ numbered_block (numbers_of names.now) next (map item_of items.now)) }
 {
     let stmts = acts(alloc, names, items)?;
     let end = end(alloc, names, next, items)?;

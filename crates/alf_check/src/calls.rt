@@ -13,7 +13,8 @@ use std::alloc::{AllocError, Global};
 
 /// For each function those that it calls, in the order of the text.
 pub fn calls_among(alloc: Global, funcs: &[Func]) -> Result<Vec<Vec<u32>>, AllocError>
-    ensures calls { IfOk result (λ calls. calls_of calls.items ≡ calls_among (map function_of funcs.now) (map function_of funcs.now)) }
+    ensures calls { IfOk result
+        (λ calls. calls_of calls.items ≡ calls_among (map function_of funcs.now) (map function_of funcs.now)) }
     ensures few { IfOk result (λ calls. length calls.items < 4294967295) }
 {
     few(funcs)?;
@@ -28,7 +29,8 @@ pub fn calls_among(alloc: Global, funcs: &[Func]) -> Result<Vec<Vec<u32>>, Alloc
 // The functions that the items call.
 fn called_in(alloc: Global, funcs: &[Func], items: &[Item]) -> Result<Vec<u32>, AllocError>
     requires { length funcs.now < 2 ^ 32 }
-    ensures { IfOk result (λ called. called.items ≡ flat_map (called_by (map function_of funcs.now)) (map item_of items.now)) }
+    ensures { IfOk result
+        (λ called. called.items ≡ flat_map (called_by (map function_of funcs.now)) (map item_of items.now)) }
 {
     let mut called = Vec::new(alloc);
     for item in items {
@@ -40,7 +42,8 @@ fn called_in(alloc: Global, funcs: &[Func], items: &[Item]) -> Result<Vec<u32>, 
 // Adds the function that the item calls, if it is a call.
 fn push_called(called: &mut Vec<u32>, funcs: &[Func], item: &Item) -> Result<(), AllocError>
     requires { length funcs.now < 2 ^ 32 }
-    ensures { OnOk result (called.new.items ≡ called.old.items ++ called_by (map function_of funcs.now) (item_of item.now)) }
+    ensures { OnOk result
+        (called.new.items ≡ called.old.items ++ called_by (map function_of funcs.now) (item_of item.now)) }
 {
     match item {
         Item::Label(_) => {}

@@ -87,7 +87,9 @@ fn call(
     args: &[Expr],
     to: &Option<(Name, u32)>,
 ) -> Result<BlockEnd, AllocError>
-    ensures { IfOk result (λ end. end_of end ≡ end_by (numbers_of names.now) next (Do (text.Call func.now (map expression_of args.now) to.now))) }
+    ensures { IfOk result
+        (λ end. end_of end
+        ≡ end_by (numbers_of names.now) next (Do (text.Call func.now (map expression_of args.now) to.now))) }
 {
     let func = names.func(func.bytes());
     let args = terms(alloc, names, args)?;
@@ -105,7 +107,8 @@ fn call(
 
 // A return.
 fn returned(alloc: Global, names: &Names<'_>, value: &Option<Expr>) -> Result<BlockEnd, AllocError>
-    ensures { IfOk result (λ end. end_of end ≡ end_by (numbers_of names.now) 0 (Do (text.Return (option_map expression_of value.now)))) }
+    ensures { IfOk result
+        (λ end. end_of end ≡ end_by (numbers_of names.now) 0 (Do (text.Return (option_map expression_of value.now)))) }
 {
     match value {
         Some(value) => Ok(BlockEnd::Return(Some(term(alloc, names, value)?))),

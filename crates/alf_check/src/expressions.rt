@@ -32,7 +32,9 @@ pub fn term(alloc: Global, names: &Names<'_>, expr: &Expr) -> Result<Term, Alloc
 /// The expressions in their order.
 #[cycle(expressions)]
 pub fn terms(alloc: Global, names: &Names<'_>, exprs: &[Expr]) -> Result<Vec<Term>, AllocError>
-    ensures { IfOk result (λ terms. map term_of terms.items ≡ map (with_frames (numbers_of names.now).frame) (map expression_of exprs.now)) }
+    ensures { IfOk result
+        (λ terms. map term_of terms.items
+        ≡ map (with_frames (numbers_of names.now).frame) (map expression_of exprs.now)) }
 {
     let mut terms = Vec::with_capacity(alloc, exprs.len())?;
     for expr in exprs {

@@ -24,8 +24,11 @@ pub fn all_functions(alloc: Global, program: &Program) -> Result<Vec<FuncParts>,
     requires frames { length (frames_of (program_of program.now)) < 4294967295 }
     requires funcs { length program.now.funcs.items < 4294967295 }
     ensures are { IfOk result (λ functions. map function_in functions.items
-        ≡ functions_from (program_of program.now) (length (program_of program.now).decls) (program_of program.now).funcs) }
-    ensures few { IfOk result (λ functions. All (λ (function : NumberedFunction). length function.blocks < 4294967295) (map function_in functions.items)) }
+        ≡ functions_from (program_of program.now) (length (program_of program.now).decls)
+        (program_of program.now).funcs) }
+    ensures few { IfOk result
+        (λ functions. All (λ (function : NumberedFunction). length function.blocks < 4294967295)
+        (map function_in functions.items)) }
 {
     let mut functions = Vec::new(alloc);
     let mut first = program.decls.len() as u32;
@@ -48,7 +51,8 @@ fn function(
     requires globals { length program.now.decls.items < 4294967295 }
     requires funcs { length program.now.funcs.items < 4294967295 }
     requires frames { first + (length func.now.args.items + length func.now.decls.items) < 4294967295 }
-    ensures is { IfOk result (λ parts. function_in parts ≡ numbered_function (program_of program.now) first (function_of func.now)) }
+    ensures is { IfOk result
+        (λ parts. function_in parts ≡ numbered_function (program_of program.now) first (function_of func.now)) }
     ensures few { IfOk result (λ parts. length (function_in parts).blocks < 4294967295) }
 {
     let row = row(alloc, first, func)?;
@@ -85,7 +89,8 @@ fn func_blocks(
     requires funcs { length program.now.funcs.items < 4294967295 }
     requires frames { first + (length func.now.args.items + length func.now.decls.items) < 4294967295 }
     ensures are { IfOk result (λ blocks. map block_of blocks.items
-        ≡ numbered_blocks (numbers_in (program_of program.now) first (function_of func.now)) 0 (blocks_of (function_of func.now).items)) }
+        ≡ numbered_blocks (numbers_in (program_of program.now) first (function_of func.now)) 0
+        (blocks_of (function_of func.now).items)) }
     ensures few { IfOk result (λ blocks. length blocks.items < 4294967295) }
 {
     let labels = Labels::new(alloc, &func.items)?;

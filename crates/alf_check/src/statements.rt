@@ -15,7 +15,9 @@ use std::alloc::{AllocError, Global};
 
 /// What control goes through at the items.
 pub fn acts(alloc: Global, names: &Names<'_>, items: &[Item]) -> Result<Vec<Act>, AllocError>
-    ensures { IfOk result (λ acts. map act_of acts.items ≡ flat_map (statements_by (numbers_of names.now).frame) (map item_of items.now)) }
+    ensures { IfOk result
+        (λ acts. map act_of acts.items
+        ≡ flat_map (statements_by (numbers_of names.now).frame) (map item_of items.now)) }
 {
     let mut acts = Vec::new(alloc);
     for item in items {
@@ -31,7 +33,9 @@ fn push_act(
     names: &Names<'_>,
     item: &Item,
 ) -> Result<(), AllocError>
-    ensures { OnOk result (map act_of acts.new.items ≡ map act_of acts.old.items ++ statements_by (numbers_of names.now).frame (item_of item.now)) }
+    ensures { OnOk result
+        (map act_of acts.new.items
+        ≡ map act_of acts.old.items ++ statements_by (numbers_of names.now).frame (item_of item.now)) }
 {
     match item {
         Item::Label(_) => {}
@@ -47,7 +51,10 @@ fn push_act(
 
 // A store.
 fn store(alloc: Global, names: &Names<'_>, at: &Expr, value: &Expr) -> Result<Act, AllocError>
-    ensures { IfOk result (λ act. act_of act ≡ Store (with_frames (numbers_of names.now).frame (expression_of at.now)) (with_frames (numbers_of names.now).frame (expression_of value.now))) }
+    ensures { IfOk result
+        (λ act. act_of act
+        ≡ Store (with_frames (numbers_of names.now).frame (expression_of at.now))
+        (with_frames (numbers_of names.now).frame (expression_of value.now))) }
 {
     let at = term(alloc, names, at)?;
     let value = term(alloc, names, value)?;

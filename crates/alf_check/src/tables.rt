@@ -73,7 +73,8 @@ pub fn init_rows(
     inits: &[Init],
 ) -> Result<Vec<InitRow>, AllocError>
     requires { start + length frames.now < 2 ^ 32 }
-    ensures { IfOk result (λ numbered. numbered.items ≡ numbered_inits start (map allocation_of frames.now) (map initial_of inits.now)) }
+    ensures { IfOk result
+        (λ numbered. numbered.items ≡ numbered_inits start (map allocation_of frames.now) (map initial_of inits.now)) }
 {
     let mut numbered = Vec::new(alloc);
     for init in inits {
@@ -90,7 +91,8 @@ pub fn init_rows(
 /// The numbers of the exported frames.
 pub fn export_numbers(alloc: Global, program: &Program) -> Result<Vec<u32>, AllocError>
     requires { length program.now.decls.items < 2 ^ 32 }
-    ensures numbers { IfOk result (λ numbers. numbers.items ≡ map (export_number (program_of program.now)) (program_of program.now).exports) }
+    ensures numbers { IfOk result
+        (λ numbers. numbers.items ≡ map (export_number (program_of program.now)) (program_of program.now).exports) }
     ensures few { IfOk result (λ numbers. length numbers.items < 4294967295) }
 {
     let mut numbers = Vec::new(alloc);

@@ -20,7 +20,8 @@ use Rattle.alf_faults.proofs.FaultParts.{function_named, named_function, label_f
 module _ (whole : WholeProgram) (k : ℕ) (func : Function) (i : ℕ) where
   -- ---- what follows where an item has no fault
 
-  label_none : (label : List ℕ) → label_duplicates whole.funcs func.items i label ≡ [] → LabelHasNoFault whole func i label
+  label_none : (label : List ℕ) → label_duplicates whole.funcs func.items i label ≡ []
+      → LabelHasNoFault whole func i label
   label_none label none =
       let two = when_either (not (is_exactly i (label_place func.items label))) (is_some (function_place whole.funcs label)) (Duplicate label) none in
       let place = exactly i (label_place func.items label) (not_false (is_exactly i (label_place func.items label)) two.0) in
@@ -30,13 +31,15 @@ module _ (whole : WholeProgram) (k : ℕ) (func : Function) (i : ℕ) where
         alone = λ there. false≢true (sym two.1 ∙ named_function whole.funcs label there);
       }
 
-  store_none : (at value : NamedExpression) → entry_unknowns whole func (Do (Store at value)) ≡ [] → entry_fits whole k func i (Do (Store at value)) ≡ true → StoreHasNoFault whole func at value
+  store_none : (at value : NamedExpression) → entry_unknowns whole func (Do (Store at value)) ≡ []
+      → entry_fits whole k func i (Do (Store at value)) ≡ true → StoreHasNoFault whole func at value
   store_none at value none fits =
       let parts = no_parts (unknown_in whole func at) (unknown_in whole func value) none in
       let two = and_parts (is_exactly 32 (term_size at)) (is_bytes (term_size value)) fits in
       record { at_sees = sees whole func at parts.0; value_sees = sees whole func value parts.1; at_size = exactly 32 (term_size at) two.0; value_bytes = two.1 }
 
-  switch_none : (value : NamedExpression) (targets : List (Num × List ℕ)) (others : List ℕ) → target_duplicates [] targets ≡ [] → entry_unknowns whole func (Do (Switch value targets others)) ≡ []
+  switch_none : (value : NamedExpression) (targets : List (Num × List ℕ)) (others : List ℕ)
+      → target_duplicates [] targets ≡ [] → entry_unknowns whole func (Do (Switch value targets others)) ≡ []
       → (size : Option ℕ) → term_size value ≡ size → targets_fit size targets ≡ true → SwitchHasNoFault whole func value targets others
   switch_none value targets others twice none None is fits = absurd (false≢true fits)
   switch_none value targets others twice none (Some size) is fits =
@@ -52,12 +55,14 @@ module _ (whole : WholeProgram) (k : ℕ) (func : Function) (i : ℕ) where
         differ = (differ_none [] targets twice).1;
       }
 
-  call_none : (label : List ℕ) (args : List NamedExpression) (result : Option (List ℕ × ℕ)) → entry_unknowns whole func (Do (Call label args result)) ≡ []
+  call_none : (label : List ℕ) (args : List NamedExpression) (result : Option (List ℕ × ℕ))
+      → entry_unknowns whole func (Do (Call label args result)) ≡ []
       → (place : Option ℕ) → function_place whole.funcs label ≡ place → fits_place whole.funcs place k i args (is_some result) ≡ true → CallHasNoFault whole k func i label args result
   call_none label args result none None is fits = absurd (false≢true fits)
   call_none label args result none (Some p) is fits = at (slice_get whole.funcs p) refl fits
     where
-      at : (found : Option Function) → slice_get whole.funcs p ≡ found → fits_function p found k i args (is_some result) ≡ true → CallHasNoFault whole k func i label args result
+      at : (found : Option Function) → slice_get whole.funcs p ≡ found
+          → fits_function p found k i args (is_some result) ≡ true → CallHasNoFault whole k func i label args result
       at None there e = absurd (false≢true e)
       at (Some called) there e =
           let parts = no_parts (unknown_function whole label) (unknown_among whole func (expressions_of args) ++ unknown_result whole func result) none in
@@ -74,11 +79,13 @@ module _ (whole : WholeProgram) (k : ℕ) (func : Function) (i : ℕ) where
             agrees = two.1;
           }
 
-  return_none : (value : Option NamedExpression) → entry_unknowns whole func (Do (Return value)) ≡ [] → return_fits whole k func i value ≡ true → ReturnHasNoFault whole k func i value
+  return_none : (value : Option NamedExpression) → entry_unknowns whole func (Do (Return value)) ≡ []
+      → return_fits whole k func i value ≡ true → ReturnHasNoFault whole k func i value
   return_none None none fits = record { sees = λ e is. absurd (none-some e is); fits = fits }
   return_none (Some value) none fits = record { sees = λ e is. subst (λ (x : NamedExpression). SeesFrames whole func x) (same_Some value e is) (sees whole func value none); fits = fits }
 
-  by_item : (item : BodyItem) → entry_duplicates whole func i item ≡ [] → entry_unknowns whole func item ≡ [] → entry_fits whole k func i item ≡ true → ItemHasNoFault whole k func i item
+  by_item : (item : BodyItem) → entry_duplicates whole func i item ≡ [] → entry_unknowns whole func item ≡ []
+      → entry_fits whole k func i item ≡ true → ItemHasNoFault whole k func i item
   by_item (Label label) twice none fits = label_none label twice
   by_item (Do Null) twice none fits = tt
   by_item (Do (Store at value)) twice none fits = store_none at value none fits
@@ -95,7 +102,8 @@ module _ (whole : WholeProgram) (k : ℕ) (func : Function) (i : ℕ) where
 
   -- ---- and back
 
-  none_label : (label : List ℕ) → slice_get func.items i ≡ Some (Label label) → LabelHasNoFault whole func i label → label_duplicates whole.funcs func.items i label ≡ []
+  none_label : (label : List ℕ) → slice_get func.items i ≡ Some (Label label) → LabelHasNoFault whole func i label
+      → label_duplicates whole.funcs func.items i label ≡ []
   none_label label at h =
       let place = exact_is i (label_place func.items label) (is_first (is_label_named label) func.items i (Label label) at (same_name label label refl) before) in
       let alone : is_some (function_place whole.funcs label) ≡ false = by_test (is_some (function_place whole.funcs label)) (λ t. absurd (h.alone (function_named whole.funcs label t))) (λ t. t) in
@@ -130,7 +138,8 @@ module _ (whole : WholeProgram) (k : ℕ) (func : Function) (i : ℕ) where
   none_by_item (Do (Return None)) at h = (refl, refl, h.fits)
   none_by_item (Do (Return (Some value))) at h = (refl, none_unseen whole func value (h.sees value refl), h.fits)
 
-  pub none_item : (item : BodyItem) → slice_get func.items i ≡ Some item → ItemHasNoFault whole k func i item → entry_faults whole k func i item ≡ []
+  pub none_item : (item : BodyItem) → slice_get func.items i ≡ Some item → ItemHasNoFault whole k func i item
+      → entry_faults whole k func i item ≡ []
   none_item item at h =
       let three = none_by_item item at h in
       both_none (entry_duplicates whole func i item) (entry_unknowns whole func item ++ when (not (entry_fits whole k func i item)) (Size func.name (Some i))) three.0
@@ -140,7 +149,8 @@ module _ (whole : WholeProgram) (k : ℕ) (func : Function) (i : ℕ) where
 
 module _ (whole : WholeProgram) (k : ℕ) (func : Function) where
   -- a function without a fault is the first of its name
-  pub function_none : function_faults whole k func ≡ [] → (function_place whole.funcs func.name ≡ Some k) × FunctionHasNoFault whole k func
+  pub function_none : function_faults whole k func ≡ []
+      → (function_place whole.funcs func.name ≡ Some k) × FunctionHasNoFault whole k func
   function_none none =
       let halves = no_parts (header_faults whole k func) (each_from (entry_faults whole k func) 0 func.items) none in
       let name = no_parts (function_duplicates whole.funcs k func) (each_from (frame_duplicates whole.decls [] func.args) 0 func.args ++ (each_from (frame_duplicates whole.decls func.args func.decls) 0 func.decls ++ flat_map (start_faults func.decls) func.inits)) halves.0 in
@@ -160,7 +170,8 @@ module _ (whole : WholeProgram) (k : ℕ) (func : Function) where
         },
       )
 
-  pub none_function : function_place whole.funcs func.name ≡ Some k → FunctionHasNoFault whole k func → function_faults whole k func ≡ []
+  pub none_function : function_place whole.funcs func.name ≡ Some k → FunctionHasNoFault whole k func
+      → function_faults whole k func ≡ []
   none_function first h =
       both_none (header_faults whole k func) (each_from (entry_faults whole k func) 0 func.items)
       (both_none (function_duplicates whole.funcs k func) (each_from (frame_duplicates whole.decls [] func.args) 0 func.args ++ (each_from (frame_duplicates whole.decls func.args func.decls) 0 func.decls ++ flat_map (start_faults func.decls) func.inits))

@@ -40,26 +40,30 @@ not_false true e = refl
 not_false false e = cc
 
 -- what members give, by their places
-pub none_each : {A : Type 0} (gives : ℕ → A → List Fault) (n : ℕ) (xs : List A) (k m : ℕ) (x : A) → m ≡ n + k → each_from gives n xs ≡ [] → slice_get xs k ≡ Some x → gives m x ≡ []
+pub none_each : {A : Type 0} (gives : ℕ → A → List Fault) (n : ℕ) (xs : List A) (k m : ℕ) (x : A) → m ≡ n + k
+    → each_from gives n xs ≡ [] → slice_get xs k ≡ Some x → gives m x ≡ []
 none_each gives n [] k m x is none at = absurd (none-some x at)
 none_each gives n (y ∷ xs) zero m x is none at =
     let here = (no_parts (gives n y) (each_from gives (n + 1) xs) none).0 in let same = same_Some y x at in let e : m ≡ n = omega arith in cc
 none_each gives n (y ∷ xs) (suc k) m x is none at = none_each gives (n + 1) xs k m x (omega arith) (no_parts (gives n y) (each_from gives (n + 1) xs) none).1 at
 
-pub each_none : {A : Type 0} (gives : ℕ → A → List Fault) (n : ℕ) (xs : List A) → ((k : ℕ) (x : A) → slice_get xs k ≡ Some x → gives (n + k) x ≡ []) → each_from gives n xs ≡ []
+pub each_none : {A : Type 0} (gives : ℕ → A → List Fault) (n : ℕ) (xs : List A)
+    → ((k : ℕ) (x : A) → slice_get xs k ≡ Some x → gives (n + k) x ≡ []) → each_from gives n xs ≡ []
 each_none gives n [] each = refl
 each_none gives n (x ∷ xs) each =
     both_none (gives n x) (each_from gives (n + 1) xs) (subst (λ (m : ℕ). gives m x ≡ []) (add-zero n) (each 0 x refl))
     (each_none gives (n + 1) xs (λ k y at. let same : n + suc k ≡ n + 1 + k = omega arith in subst (λ (m : ℕ). gives m y ≡ []) same (each (suc k) y at)))
 
 -- what members give
-pub none_joined : {A : Type 0} (gives : A → List Fault) (xs : List A) → flat_map gives xs ≡ [] → (x : A) → Contains xs x → gives x ≡ []
+pub none_joined : {A : Type 0} (gives : A → List Fault) (xs : List A) → flat_map gives xs ≡ [] → (x : A) → Contains xs x
+    → gives x ≡ []
 none_joined gives [] none x c = no_member x c
 none_joined gives (y ∷ xs) none x c =
     let parts = no_parts (gives y) (flat_map gives xs) none in
     first_or_further y xs x c (λ same. subst (λ z. gives z ≡ []) same parts.0) (none_joined gives xs parts.1 x)
 
-pub joined_none : {A : Type 0} (gives : A → List Fault) (xs : List A) → ((x : A) → Contains xs x → gives x ≡ []) → flat_map gives xs ≡ []
+pub joined_none : {A : Type 0} (gives : A → List Fault) (xs : List A) → ((x : A) → Contains xs x → gives x ≡ [])
+    → flat_map gives xs ≡ []
 joined_none gives [] each = refl
 joined_none gives (x ∷ xs) each =
     both_none (gives x) (flat_map gives xs) (each x (first_member x xs)) (joined_none gives xs (λ y c. each y (further_member x xs y c)))
@@ -85,7 +89,8 @@ module _ {A : Type 0} (passes : A → Bool) where
   first_here x xs e = rw e refl
 
   -- else it is further on
-  first_further : (x : A) (xs : List A) → passes x ≡ false → place_of passes (x ∷ xs) ≡ option_map (λ k. k + 1) (place_of passes xs)
+  first_further : (x : A) (xs : List A) → passes x ≡ false
+      → place_of passes (x ∷ xs) ≡ option_map (λ k. k + 1) (place_of passes xs)
   first_further x xs e = rw e refl
 
   -- what stands at the place passes, and none before it does
@@ -95,7 +100,9 @@ module _ {A : Type 0} (passes : A → Bool) where
   stands_first (x ∷ xs) n e = by_test (passes x) (λ t. here (same_Some 0 n (sym (first_here x xs t) ∙ e)) t)
       (λ t. let m = some_image (λ (k : ℕ). k + 1) (place_of passes xs) n (sym (first_further x xs t) ∙ e) in further t m.0 (m.2) (stands_first xs m.0 m.1))
     where
-      here : 0 ≡ n → passes x ≡ true → ((z : A) × (slice_get (x ∷ xs) n ≡ Some z) × (passes z ≡ true)) × ((j : ℕ) (y : A) → j < n → slice_get (x ∷ xs) j ≡ Some y → passes y ≡ false)
+      here : 0 ≡ n → passes x ≡ true
+          → ((z : A) × (slice_get (x ∷ xs) n ≡ Some z) × (passes z ≡ true))
+          × ((j : ℕ) (y : A) → j < n → slice_get (x ∷ xs) j ≡ Some y → passes y ≡ false)
       here is t = ((x, ap (λ (k : ℕ). slice_get (x ∷ xs) k) (sym is), t), λ j y low at. absurd (omega arith))
 
       further : passes x ≡ false → (m : ℕ) → m + 1 ≡ n
@@ -109,7 +116,8 @@ module _ {A : Type 0} (passes : A → Bool) where
           none (suc j) y low at = r.1 j y (omega arith) at
 
   -- a member that passes, where none before it does, is the first
-  pub is_first : (xs : List A) (n : ℕ) (x : A) → slice_get xs n ≡ Some x → passes x ≡ true → ((j : ℕ) (y : A) → j < n → slice_get xs j ≡ Some y → passes y ≡ false) → place_of passes xs ≡ Some n
+  pub is_first : (xs : List A) (n : ℕ) (x : A) → slice_get xs n ≡ Some x → passes x ≡ true
+      → ((j : ℕ) (y : A) → j < n → slice_get xs j ≡ Some y → passes y ≡ false) → place_of passes xs ≡ Some n
   is_first [] n x at t before = absurd (none-some x at)
   is_first (y ∷ xs) zero x at t before = first_here y xs (subst (λ (z : A). passes z ≡ true) (sym (same_Some y x at)) t)
   is_first (y ∷ xs) (suc n) x at t before =
@@ -149,7 +157,9 @@ other_name a b other = by_test (bytes_eq a b) (λ t. absurd (other (is_name a b 
 
 module _ {A : Type 0} (name : A → List ℕ) where
   -- where each is the first of its name, no two have one name
-  pub names_differ : (xs : List A) → ((k : ℕ) (x : A) → slice_get xs k ≡ Some x → place_of (λ y. bytes_eq (name y) (name x)) xs ≡ Some k) → AllPairs (λ x y. name x ≢ name y) xs
+  pub names_differ : (xs : List A)
+      → ((k : ℕ) (x : A) → slice_get xs k ≡ Some x → place_of (λ y. bytes_eq (name y) (name x)) xs ≡ Some k)
+      → AllPairs (λ x y. name x ≢ name y) xs
   names_differ xs first i j d before inside = λ e.
       let x = get_or xs i d in
       let y = get_or xs j d in
@@ -157,7 +167,8 @@ module _ {A : Type 0} (name : A → List ℕ) where
       absurd (false≢true (sym none ∙ same_name (name x) (name y) e))
 
   -- and the other way
-  pub first_named : (xs : List A) → AllPairs (λ x y. name x ≢ name y) xs → (k : ℕ) (x : A) → slice_get xs k ≡ Some x → place_of (λ y. bytes_eq (name y) (name x)) xs ≡ Some k
+  pub first_named : (xs : List A) → AllPairs (λ x y. name x ≢ name y) xs → (k : ℕ) (x : A) → slice_get xs k ≡ Some x
+      → place_of (λ y. bytes_eq (name y) (name x)) xs ≡ Some k
   first_named xs differ k x at =
       is_first (λ y. bytes_eq (name y) (name x)) xs k x at (same_name (name x) (name x) refl) (λ j y low is.
       let inside = slice_get_within xs k x at in

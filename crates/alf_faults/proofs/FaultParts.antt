@@ -23,17 +23,21 @@ use Rattle.alf_faults.proofs.FaultLists.{no_parts, both_none, when_not, not_when
 -- ---- names
 
 -- a frame of the name is found exactly where there is one
-frame_named : (frames : List Allocation) (name : List ℕ) → is_some (frame_place frames name) ≡ true → IsFrameNamed frames name
+frame_named : (frames : List Allocation) (name : List ℕ) → is_some (frame_place frames name) ≡ true
+    → IsFrameNamed frames name
 frame_named frames name some = let there = place_some (λ (f : Allocation). bytes_eq f.name name) frames some in (there.0, there.1, is_name there.0.name name there.2)
 
-named_frame : (frames : List Allocation) (name : List ℕ) → IsFrameNamed frames name → is_some (frame_place frames name) ≡ true
+named_frame : (frames : List Allocation) (name : List ℕ) → IsFrameNamed frames name
+    → is_some (frame_place frames name) ≡ true
 named_frame frames name there = some_place (λ (f : Allocation). bytes_eq f.name name) frames there.0 there.1 (same_name there.0.name name there.2)
 
 -- so is a function
-pub function_named : (funcs : List Function) (name : List ℕ) → is_some (function_place funcs name) ≡ true → IsFunctionNamed funcs name
+pub function_named : (funcs : List Function) (name : List ℕ) → is_some (function_place funcs name) ≡ true
+    → IsFunctionNamed funcs name
 function_named funcs name some = let there = place_some (λ (f : Function). bytes_eq f.name name) funcs some in (there.0, there.1, is_name there.0.name name there.2)
 
-pub named_function : (funcs : List Function) (name : List ℕ) → IsFunctionNamed funcs name → is_some (function_place funcs name) ≡ true
+pub named_function : (funcs : List Function) (name : List ℕ) → IsFunctionNamed funcs name
+    → is_some (function_place funcs name) ≡ true
 named_function funcs name there = some_place (λ (f : Function). bytes_eq f.name name) funcs there.0 there.1 (same_name there.0.name name there.2)
 
 -- and a label
@@ -41,15 +45,18 @@ label_is : (label : List ℕ) (item : BodyItem) → is_label_named label item �
 label_is label (Label name) e = ap Label (is_name name label e)
 label_is label (Do act) e = absurd (false≢true e)
 
-pub label_found : (items : List BodyItem) (label : List ℕ) → is_some (label_place items label) ≡ true → HasLabel items label
+pub label_found : (items : List BodyItem) (label : List ℕ) → is_some (label_place items label) ≡ true
+    → HasLabel items label
 label_found items label some =
     let there = place_some (is_label_named label) items some in subst (λ (item : BodyItem). Contains items item) (label_is label there.0 there.2) there.1
 
-pub found_label : (items : List BodyItem) (label : List ℕ) → HasLabel items label → is_some (label_place items label) ≡ true
+pub found_label : (items : List BodyItem) (label : List ℕ) → HasLabel items label
+    → is_some (label_place items label) ≡ true
 found_label items label there = some_place (is_label_named label) items (Label label) there (same_name label label refl)
 
 -- frames with names of their own
-pub frames_none : (taken others frames : List Allocation) → each_from (frame_duplicates taken others frames) 0 frames ≡ []
+pub frames_none : (taken others frames : List Allocation)
+    → each_from (frame_duplicates taken others frames) 0 frames ≡ []
     → HaveOtherNames taken frames × HaveOtherNames others frames × DifferInName frames
 frames_none taken others frames none = (apart taken (λ k x at. (each k x at).0), apart others (λ k x at. (each k x at).1), names_differ (λ (f : Allocation). f.name) frames (λ k x at. (each k x at).2))
   where
@@ -61,15 +68,19 @@ frames_none taken others frames none = (apart taken (λ k x at. (each k x at).0)
         let names = or_parts (is_some (frame_place taken x.name)) (is_some (frame_place others x.name)) two.0 in
         (names.0, names.1, exactly k (frame_place frames x.name) (not_false (is_exactly k (frame_place frames x.name)) two.1))
 
-    apart : (list : List Allocation) → ((k : ℕ) (x : Allocation) → slice_get frames k ≡ Some x → is_some (frame_place list x.name) ≡ false) → HaveOtherNames list frames
+    apart : (list : List Allocation)
+        → ((k : ℕ) (x : Allocation) → slice_get frames k ≡ Some x → is_some (frame_place list x.name) ≡ false)
+        → HaveOtherNames list frames
     apart list clear frame other c d e =
         false≢true (sym (clear c.0 frame (placed frames frame c)) ∙ named_frame list frame.name (other, d, e))
 
-pub none_frames : (taken others frames : List Allocation) → HaveOtherNames taken frames → HaveOtherNames others frames → DifferInName frames
+pub none_frames : (taken others frames : List Allocation) → HaveOtherNames taken frames → HaveOtherNames others frames
+    → DifferInName frames
     → each_from (frame_duplicates taken others frames) 0 frames ≡ []
 none_frames taken others frames new_taken new_others differ = each_none (frame_duplicates taken others frames) 0 frames (λ k x at. subst (λ (m : ℕ). frame_duplicates taken others frames m x ≡ []) (sym (zero-add k)) (none k x at))
   where
-    clear : (list : List Allocation) → HaveOtherNames list frames → (x : Allocation) → Contains frames x → is_some (frame_place list x.name) ≡ false
+    clear : (list : List Allocation) → HaveOtherNames list frames → (x : Allocation) → Contains frames x
+        → is_some (frame_place list x.name) ≡ false
     clear list new x c = place_none (λ (f : Allocation). bytes_eq f.name x.name) list (λ y d. other_name y.name x.name (new x y c d))
 
     none : (k : ℕ) (x : Allocation) → slice_get frames k ≡ Some x → frame_duplicates taken others frames k x ≡ []
@@ -80,24 +91,30 @@ none_frames taken others frames new_taken new_others differ = each_none (frame_d
 
 -- ---- what frames hold at first, and exports
 
-pub init_none : (frames : List Allocation) (init : InitialValue) → start_faults frames init ≡ [] → InitHasNoFault frames init
+pub init_none : (frames : List Allocation) (init : InitialValue) → start_faults frames init ≡ []
+    → InitHasNoFault frames init
 init_none frames init none = at (frame_at frames (frame_place frames init.name)) refl none
   where
-    at : (found : Option Allocation) → frame_at frames (frame_place frames init.name) ≡ found → start_faults_at init found ≡ [] → InitHasNoFault frames init
+    at : (found : Option Allocation) → frame_at frames (frame_place frames init.name) ≡ found
+        → start_faults_at init found ≡ [] → InitHasNoFault frames init
     at None is e = cc
     at (Some frame) is e = record { frame = frame; found = is; fits = when_not (start_fits frame.bits init) (Size init.name None) e }
 
-pub none_init : (frames : List Allocation) (init : InitialValue) → InitHasNoFault frames init → start_faults frames init ≡ []
+pub none_init : (frames : List Allocation) (init : InitialValue) → InitHasNoFault frames init
+    → start_faults frames init ≡ []
 none_init frames init h = ap (start_faults_at init) h.found ∙ not_when (start_fits h.frame.bits init) (Size init.name None) h.fits
 
-pub export_none : (frames : List Allocation) (name : List ℕ) → export_faults frames name ≡ [] → ExportHasNoFault frames name
+pub export_none : (frames : List Allocation) (name : List ℕ) → export_faults frames name ≡ []
+    → ExportHasNoFault frames name
 export_none frames name none = at (frame_at frames (frame_place frames name)) refl none
   where
-    at : (found : Option Allocation) → frame_at frames (frame_place frames name) ≡ found → export_faults_at name found ≡ [] → ExportHasNoFault frames name
+    at : (found : Option Allocation) → frame_at frames (frame_place frames name) ≡ found
+        → export_faults_at name found ≡ [] → ExportHasNoFault frames name
     at None is e = cc
     at (Some frame) is e = record { frame = frame; found = is; size = when_not (is_export_size frame.bits) (Size name None) e }
 
-pub none_export : (frames : List Allocation) (name : List ℕ) → ExportHasNoFault frames name → export_faults frames name ≡ []
+pub none_export : (frames : List Allocation) (name : List ℕ) → ExportHasNoFault frames name
+    → export_faults frames name ≡ []
 none_export frames name h = ap (export_faults_at name) h.found ∙ not_when (is_export_size h.frame.bits) (Size name None) h.size
 
 -- ---- targets
@@ -117,13 +134,16 @@ differ_none earlier (target ∷ targets) none =
     no_when true fault e = cc
     no_when false fault e = refl
 
-    new : (numbers : List ℕ) (bits : ℕ) → list_any (λ number. bits == number) numbers ≡ false → (n : ℕ) → Contains numbers n → bits ≢ n
+    new : (numbers : List ℕ) (bits : ℕ) → list_any (λ number. bits == number) numbers ≡ false → (n : ℕ)
+        → Contains numbers n → bits ≢ n
     new [] bits e n c same = no_member n c
     new (m ∷ numbers) bits e n c same =
         let two = or_parts (bits == m) (list_any (λ number. bits == number) numbers) e in
         first_or_further m numbers n c (λ is. absurd (false≢true (sym two.0 ∙ eq-eqb bits m (same ∙ sym is)))) (λ more. new numbers bits two.1 n more same)
 
-pub none_differ : (earlier : List ℕ) (targets : List (Num × List ℕ)) → ((t : Num × List ℕ) → Contains targets t → (n : ℕ) → Contains earlier n → t.0.bits ≢ n) → AllPairs (λ t u. t.0.bits ≢ u.0.bits) targets
+pub none_differ : (earlier : List ℕ) (targets : List (Num × List ℕ))
+    → ((t : Num × List ℕ) → Contains targets t → (n : ℕ) → Contains earlier n → t.0.bits ≢ n)
+    → AllPairs (λ t u. t.0.bits ≢ u.0.bits) targets
     → target_duplicates earlier targets ≡ []
 none_differ earlier [] new differ = refl
 none_differ earlier (target ∷ targets) new differ =
@@ -133,7 +153,8 @@ none_differ earlier (target ∷ targets) new differ =
     (λ t c n d. elim (Contains-push_cases earlier target.0.bits n d) [ inl before ↦ new t (further_member target targets t c) n before | inr e ↦ λ same. apart t c (e ∙ sym same) ])
     (λ i j d before inside. differ (suc i) (suc j) d (omega arith) (omega arith)))
   where
-    clear : (numbers : List ℕ) → ((n : ℕ) → Contains numbers n → target.0.bits ≢ n) → list_any (λ number. target.0.bits == number) numbers ≡ false
+    clear : (numbers : List ℕ) → ((n : ℕ) → Contains numbers n → target.0.bits ≢ n)
+        → list_any (λ number. target.0.bits == number) numbers ≡ false
     clear [] none = refl
     clear (m ∷ numbers) none =
         let here : (target.0.bits == m) ≡ false = by_test (target.0.bits == m) (λ t. absurd (none m (first_member m numbers) (eqb-true target.0.bits m t))) (λ t. t) in
@@ -143,7 +164,8 @@ none_differ earlier (target ∷ targets) new differ =
     apart t c same = differ 0 (suc c.0) t (omega arith) (let low = c.1 in omega arith) (same ∙ ap (λ (u : Num × List ℕ). u.0.bits) (sym c.2))
 
 -- targets that lead to labels
-pub leads_none : (items : List BodyItem) (targets : List (Num × List ℕ)) → unknown_targets items targets ≡ [] → (t : Num × List ℕ) → Contains targets t → HasLabel items t.1
+pub leads_none : (items : List BodyItem) (targets : List (Num × List ℕ)) → unknown_targets items targets ≡ []
+    → (t : Num × List ℕ) → Contains targets t → HasLabel items t.1
 leads_none items [] none t c = no_member t c
 leads_none items (target ∷ targets) none t c =
     let parts = no_parts (unknown_label items target.1) (unknown_targets items targets) none in
@@ -151,7 +173,8 @@ leads_none items (target ∷ targets) none t c =
     (λ same. subst (λ (u : Num × List ℕ). HasLabel items u.1) same (label_found items target.1 (when_not (is_some (label_place items target.1)) (Unknown target.1) parts.0)))
     (λ more. leads_none items targets parts.1 t more)
 
-pub none_leads : (items : List BodyItem) (targets : List (Num × List ℕ)) → ((t : Num × List ℕ) → Contains targets t → HasLabel items t.1) → unknown_targets items targets ≡ []
+pub none_leads : (items : List BodyItem) (targets : List (Num × List ℕ))
+    → ((t : Num × List ℕ) → Contains targets t → HasLabel items t.1) → unknown_targets items targets ≡ []
 none_leads items [] leads = refl
 none_leads items (target ∷ targets) leads =
     both_none (unknown_label items target.1) (unknown_targets items targets)
@@ -159,27 +182,31 @@ none_leads items (target ∷ targets) leads =
     (none_leads items targets (λ t c. leads t (further_member target targets t c)))
 
 -- targets of one size
-pub sizes_none : (size : ℕ) (targets : List (Num × List ℕ)) → targets_have size targets ≡ true → (t : Num × List ℕ) → Contains targets t → t.0.size ≡ size
+pub sizes_none : (size : ℕ) (targets : List (Num × List ℕ)) → targets_have size targets ≡ true → (t : Num × List ℕ)
+    → Contains targets t → t.0.size ≡ size
 sizes_none size [] e t c = no_member t c
 sizes_none size (target ∷ targets) e t c =
     let two = and_parts (target.0.size == size) (targets_have size targets) e in
     first_or_further target targets t c (λ same. subst (λ (u : Num × List ℕ). u.0.size ≡ size) same (eqb-true target.0.size size two.0)) (λ more. sizes_none size targets two.1 t more)
 
-pub none_sizes : (size : ℕ) (targets : List (Num × List ℕ)) → ((t : Num × List ℕ) → Contains targets t → t.0.size ≡ size) → targets_have size targets ≡ true
+pub none_sizes : (size : ℕ) (targets : List (Num × List ℕ))
+    → ((t : Num × List ℕ) → Contains targets t → t.0.size ≡ size) → targets_have size targets ≡ true
 none_sizes size [] each = refl
 none_sizes size (target ∷ targets) each =
     rw (eq-eqb target.0.size size (each target (first_member target targets)), none_sizes size targets (λ t c. each t (further_member target targets t c))) refl
 
 -- ---- arguments
 
-pub args_none : (frames : List Allocation) (args : List NamedExpression) → arguments_fit frames args ≡ true → AllZip (λ arg frame. term_size arg ≡ Some frame.bits) args frames
+pub args_none : (frames : List Allocation) (args : List NamedExpression) → arguments_fit frames args ≡ true
+    → AllZip (λ arg frame. term_size arg ≡ Some frame.bits) args frames
 args_none [] [] e = tt
 args_none (frame ∷ frames) [] e = absurd (false≢true e)
 args_none [] (arg ∷ args) e = absurd (false≢true e)
 args_none (frame ∷ frames) (arg ∷ args) e =
     let two = and_parts (is_exactly frame.bits (term_size arg)) (arguments_fit frames args) e in (exactly frame.bits (term_size arg) two.0, args_none frames args two.1)
 
-pub none_args : (frames : List Allocation) (args : List NamedExpression) → AllZip (λ arg frame. term_size arg ≡ Some frame.bits) args frames → arguments_fit frames args ≡ true
+pub none_args : (frames : List Allocation) (args : List NamedExpression)
+    → AllZip (λ arg frame. term_size arg ≡ Some frame.bits) args frames → arguments_fit frames args ≡ true
 none_args [] [] z = refl
 none_args (frame ∷ frames) [] z = absurd z
 none_args [] (arg ∷ args) z = absurd z
@@ -234,10 +261,13 @@ module _ (whole : WholeProgram) (func : Function) where
     all_none_unseen Empty s = refl
     all_none_unseen (With e es) s = both_none (unknown_in whole func e) (unknown_among whole func es) (none_unseen e s.0) (all_none_unseen es s.1)
 
-  pub result_none : (result : Option (List ℕ × ℕ)) → unknown_result whole func result ≡ [] → (target : List ℕ × ℕ) → result ≡ Some target → IsSeen whole func target.0
+  pub result_none : (result : Option (List ℕ × ℕ)) → unknown_result whole func result ≡ [] → (target : List ℕ × ℕ)
+      → result ≡ Some target → IsSeen whole func target.0
   result_none None none target e = absurd (none-some target e)
   result_none (Some found) none target e = subst (λ (t : List ℕ × ℕ). IsSeen whole func t.0) (same_Some found target e) (seen found.0 none)
 
-  pub none_result : (result : Option (List ℕ × ℕ)) → ((target : List ℕ × ℕ) → result ≡ Some target → IsSeen whole func target.0) → unknown_result whole func result ≡ []
+  pub none_result : (result : Option (List ℕ × ℕ))
+      → ((target : List ℕ × ℕ) → result ≡ Some target → IsSeen whole func target.0)
+      → unknown_result whole func result ≡ []
   none_result None each = refl
   none_result (Some target) each = is_seen target.0 (each target refl)

@@ -1,7 +1,8 @@
 -- The faults of a program's names and sizes.
 --   faults_in whole   all of them, in the order of the text
--- The text goes through the exported frames and labels, the global frames, what these hold at first, and the functions; a function through its name, its
--- arguments, its declarations, what these hold at first, and its items. At one place a duplicate comes before unknown names, and these before a size.
+-- The text goes through the exported frames and labels, the global frames, what these hold at first, and the functions;
+-- a function through its name, its arguments, its declarations, what these hold at first, and its items. At one place a
+-- duplicate comes before unknown names, and these before a size.
 use Rattle.std.specs.Prelude.{ℕ, not, List, [], ◌∷◌, ◌++◌, Option, Some, None, slice_get}
 use Rattle.std.specs.List.{flat_map}
 use Rattle.alf_program.specs.Tree.{BodyItem, Allocation, InitialValue, Function, WholeProgram}

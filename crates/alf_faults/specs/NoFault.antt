@@ -84,7 +84,8 @@ pub record StoreHasNoFault (whole : WholeProgram) (func : Function) (at value : 
   pub value_bytes : is_bytes (term_size value) ≡ true
 
 -- targets of the value's size, with numbers of their own, that lead to labels
-pub record SwitchHasNoFault (whole : WholeProgram) (func : Function) (value : NamedExpression) (targets : List (Num × List ℕ)) (others : List ℕ) : Type 0 where
+pub record SwitchHasNoFault (whole : WholeProgram) (func : Function) (value : NamedExpression)
+    (targets : List (Num × List ℕ)) (others : List ℕ) : Type 0 where
   pub sees : SeesFrames whole func value
   pub leads : (target : Num × List ℕ) → Contains targets target → HasLabel func.items target.1
   pub leads_else : HasLabel func.items others
@@ -93,8 +94,10 @@ pub record SwitchHasNoFault (whole : WholeProgram) (func : Function) (value : Na
   pub sizes : (target : Num × List ℕ) → Contains targets target → target.0.size ≡ size
   pub differ : AllPairs (λ t u. t.0.bits ≢ u.0.bits) targets
 
--- arguments of the sizes of the called function's, and a result that its first return gives, where that stands before the call
-pub record CallHasNoFault (whole : WholeProgram) (k : ℕ) (func : Function) (i : ℕ) (label : List ℕ) (args : List NamedExpression) (result : Option (List ℕ × ℕ)) : Type 0 where
+-- arguments of the sizes of the called function's, and a result that its first return gives, where that stands before
+-- the call
+pub record CallHasNoFault (whole : WholeProgram) (k : ℕ) (func : Function) (i : ℕ) (label : List ℕ)
+    (args : List NamedExpression) (result : Option (List ℕ × ℕ)) : Type 0 where
   pub sees : SeesAllFrames whole func (expressions_of args)
   pub result_sees : (target : List ℕ × ℕ) → result ≡ Some target → IsSeen whole func target.0
   pub place : ℕ
@@ -105,7 +108,8 @@ pub record CallHasNoFault (whole : WholeProgram) (k : ℕ) (func : Function) (i 
   pub agrees : agrees_behind place (first_return called.items) k i (is_some result) ≡ true
 
 -- a value of the size of the function's first return, and calls before that one that agree with it
-pub record ReturnHasNoFault (whole : WholeProgram) (k : ℕ) (func : Function) (i : ℕ) (value : Option NamedExpression) : Type 0 where
+pub record ReturnHasNoFault (whole : WholeProgram) (k : ℕ) (func : Function) (i : ℕ)
+    (value : Option NamedExpression) : Type 0 where
   pub sees : (e : NamedExpression) → value ≡ Some e → SeesFrames whole func e
   pub fits : return_fits whole k func i value ≡ true
 

@@ -14,7 +14,8 @@ use Rattle.alf_faults.specs.Returns.{first_return, agrees, is_before, is_disagre
 use Rattle.alf_faults.specs.Sizes.{breaks_calls, fits_return, return_fits}
 
 -- no member passes a test that none passes at any place
-any_none : {A : Type 0} (test : ℕ → A → Bool) (n : ℕ) (xs : List A) → ((m : ℕ) (x : A) → Contains xs x → test m x ≡ false) → any_from test n xs ≡ false
+any_none : {A : Type 0} (test : ℕ → A → Bool) (n : ℕ) (xs : List A)
+    → ((m : ℕ) (x : A) → Contains xs x → test m x ≡ false) → any_from test n xs ≡ false
 any_none test n [] none = refl
 any_none test n (x ∷ xs) none = rw (none n x (first_member x xs), any_none test (n + 1) xs (λ m y c. none m y (further_member x xs y c))) refl
 
@@ -27,7 +28,8 @@ module _ (whole : WholeProgram) (name : List ℕ) (found : FirstReturn)
     (agreeing : (caller : Function) (label : List ℕ) (args : List NamedExpression) (result : Option (List ℕ × ℕ)) → Contains whole.funcs caller → Contains caller.items (Do (Call label args result))
     → label ≡ name → agrees (is_some result) found ≡ true) where
   -- an item does not disagree
-  item_agrees : (caller : Function) (item : BodyItem) → Contains whole.funcs caller → Contains caller.items item → is_disagreeing name found item ≡ false
+  item_agrees : (caller : Function) (item : BodyItem) → Contains whole.funcs caller → Contains caller.items item
+      → is_disagreeing name found item ≡ false
   item_agrees caller (Label label) c d = refl
   item_agrees caller (Do Null) c d = refl
   item_agrees caller (Do (Store at value)) c d = refl

@@ -7,7 +7,8 @@ use Rattle.lists.specs.TestLaws.{by_test}
 use Rattle.alf_faults.specs.Places.{place_of}
 
 -- one further back
-shifted : (n m : ℕ) → cond (ltb (1 + n) (suc m)) (Some (1 + n)) None ≡ option_map (λ k. k + 1) (cond (ltb n m) (Some n) None)
+shifted : (n m : ℕ)
+    → cond (ltb (1 + n) (suc m)) (Some (1 + n)) None ≡ option_map (λ k. k + 1) (cond (ltb n m) (Some n) None)
 shifted n m =
     let same : ltb (1 + n) (suc m) ≡ ltb n m = grind (arith, nat_tests) in
     by_test (ltb n m) (λ e. rw (same, e) (ap Some (omega arith))) (λ e. rw (same, e) refl)
@@ -20,15 +21,18 @@ position_place passes (x ∷ xs) =
     (λ e. rw e (shifted (position_or_len passes xs) (length xs) ∙ ap (option_map (λ k. k + 1)) (position_place passes xs)))
 
 -- a place counted from further back
-pub counted : (n : ℕ) (place : Option ℕ) → option_map (λ k. k + n) (option_map (λ k. k + 1) place) ≡ option_map (λ k. k + suc n) place
+pub counted : (n : ℕ) (place : Option ℕ)
+    → option_map (λ k. k + n) (option_map (λ k. k + 1) place) ≡ option_map (λ k. k + suc n) place
 counted n None = refl
 counted n (Some k) = ap Some (omega arith)
 
 -- a place is below the length
-pub place_within : {A : Type 0} (passes : A → Bool) (xs : List A) → IfSome (place_of passes xs) (λ place. place < length xs)
+pub place_within : {A : Type 0} (passes : A → Bool) (xs : List A)
+    → IfSome (place_of passes xs) (λ place. place < length xs)
 place_within passes [] = tt
 place_within passes (x ∷ xs) = by_test (passes x) (λ e. rw e (omega arith)) (λ e. rw e (further (place_of passes xs) (length xs) (place_within passes xs)))
   where
-    further : (place : Option ℕ) (n : ℕ) → IfSome place (λ k. k < n) → IfSome (option_map (λ k. k + 1) place) (λ k. k < suc n)
+    further : (place : Option ℕ) (n : ℕ) → IfSome place (λ k. k < n)
+        → IfSome (option_map (λ k. k + 1) place) (λ k. k < suc n)
     further None n h = tt
     further (Some k) n h = omega arith

@@ -74,7 +74,8 @@ call_fits whole k i label args has_result = fits_place whole.funcs (function_pla
 abbrev pub breaks_calls : WholeProgram → ℕ → List ℕ → ℕ → FirstReturn → Bool
 breaks_calls whole k name i return = (return.item == i) && is_exactly k (function_place whole.funcs name) && is_breached whole.funcs name return k
 
--- a return that is item i of function k gives the size of the function's first return, and where it is that first return, the calls before it agree with it
+-- a return that is item i of function k gives the size of the function's first return, and where it is that first
+-- return, the calls before it agree with it
 abbrev pub fits_return : WholeProgram → ℕ → List ℕ → ℕ → Option FirstReturn → Option ℕ → Bool
 fits_return whole k name i None size = false
 fits_return whole k name i (Some return) size = same_size return.size size && not (breaks_calls whole k name i return)

@@ -21,7 +21,8 @@ is_bytes None = false
 is_bytes (Some size) = (size % 8) == 0
 
 abbrev mutual
-  -- a number has its size and an address 32 bits; a load has its own, from an address of 32; an operator has that of its row, at operands that fit
+  -- a number has its size and an address 32 bits; a load has its own, from an address of 32; an operator has that of
+  -- its row, at operands that fit
   pub term_size : NamedExpression → Option ℕ
   term_size (Number n) = Some n.size
   term_size (Address frame offset) = Some 32

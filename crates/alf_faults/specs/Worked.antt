@@ -32,7 +32,8 @@ of_functions funcs = record { exports = []; labels = []; decls = []; inits = [];
 abbrev pub returned : BodyItem
 returned = Do (Return None)
 
--- the exported frame `e`, the exported label `l`, what `i` and `j` hold at first, and what the items of `m` name are nowhere
+-- the exported frame `e`, the exported label `l`, what `i` and `j` hold at first, and what the items of `m` name are
+-- nowhere
 abbrev pub with_every_name : WholeProgram
 with_every_name = record {
   exports = codes "e" ∷ [];

@@ -71,7 +71,10 @@ fn note<'a>(
     item: &'a Item,
     place: usize,
 ) -> Result<(), AllocError>
-    ensures { OnOk result ((name : List ℕ) → found table.new name ≡ (if is_label_named name (item_of item.now) then Some place else found table.old name)) }
+    ensures { OnOk result
+        ((name : List ℕ)
+        → found table.new name
+        ≡ (if is_label_named name (item_of item.now) then Some place else found table.old name)) }
 {
     match item {
         Item::Label(label) => {

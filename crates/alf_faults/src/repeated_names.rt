@@ -5,7 +5,8 @@ ghost use Rattle.std.specs.Option.{option_map};
 ghost use Rattle.alf_program.specs.Tree.{item_of, function_of, program_of};
 ghost use Rattle.alf_faults.specs.Fault.{earliest};
 ghost use Rattle.alf_faults.specs.FoundFaults.{told};
-ghost use Rattle.alf_faults.specs.Duplicates.{function_duplicates, label_duplicates, target_duplicates, entry_duplicates};
+ghost use Rattle.alf_faults.specs.Duplicates.{function_duplicates, label_duplicates, target_duplicates};
+ghost use Rattle.alf_faults.specs.Duplicates.{entry_duplicates};
 
 use crate::findings::{Found, is_exactly};
 use crate::label_table::Labels;

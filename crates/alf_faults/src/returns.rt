@@ -2,7 +2,8 @@
 
 ghost use Rattle.std.specs.Prelude.{◌≡◌, map, IfOk};
 ghost use Rattle.alf_program.specs.Tree.{item_of, function_of};
-ghost use Rattle.alf_faults.specs.Returns.{return_of, first_return, returns_of, agrees, is_disagreeing, has_breach, is_breached};
+ghost use Rattle.alf_faults.specs.Returns.{return_of, first_return, returns_of, agrees, is_disagreeing, has_breach};
+ghost use Rattle.alf_faults.specs.Returns.{is_breached};
 
 use crate::item_places::{ItemPlace, is_before};
 use crate::term_sizes::{is_bytes, return_size};

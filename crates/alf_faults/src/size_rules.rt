@@ -4,7 +4,8 @@ ghost use Rattle.std.specs.Prelude.{◌≡◌, map};
 ghost use Rattle.std.specs.Option.{option_map};
 ghost use Rattle.alf_program.specs.Tree.{allocation_of, expression_of, item_of, function_of, program_of};
 ghost use Rattle.alf_faults.specs.Scopes.{IsScope};
-ghost use Rattle.alf_faults.specs.Sizes.{targets_have, targets_fit, arguments_fit, agrees_behind, call_fits, breaks_calls, return_fits, entry_fits};
+ghost use Rattle.alf_faults.specs.Sizes.{targets_have, targets_fit, arguments_fit, agrees_behind, call_fits};
+ghost use Rattle.alf_faults.specs.Sizes.{breaks_calls, return_fits, entry_fits};
 
 use crate::findings::is_exactly;
 use crate::item_places::{ItemPlace, is_before};

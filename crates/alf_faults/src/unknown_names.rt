@@ -6,7 +6,8 @@ ghost use Rattle.std.specs.Option.{option_map};
 ghost use Rattle.alf_program.specs.Tree.{expression_of, expressions_of, item_of, function_of, program_of};
 ghost use Rattle.alf_faults.specs.Fault.{earliest};
 ghost use Rattle.alf_faults.specs.FoundFaults.{told};
-ghost use Rattle.alf_faults.specs.Unknowns.{is_frame, unknown_frame, unknown_in, unknown_among, unknown_function, unknown_label, unknown_targets, unknown_result, entry_unknowns};
+ghost use Rattle.alf_faults.specs.Unknowns.{is_frame, unknown_frame, unknown_in, unknown_among, unknown_function};
+ghost use Rattle.alf_faults.specs.Unknowns.{unknown_label, unknown_targets, unknown_result, entry_unknowns};
 
 use crate::findings::Found;
 use crate::label_table::Labels;

@@ -31,7 +31,8 @@ use Rattle.alf_interp.specs.Turns.{GoesOn, IsInstance, IsCaller, IsCallerOf}
 use Rattle.flow_graph.specs.EdgeLaws.{edge_to}
 
 -- where a machine stands, there is a node
-pub standing_low : (machine : RunMachine) (moment : Moment) → StandsAt machine moment → machine.node < length machine.graph.nodes
+pub standing_low : (machine : RunMachine) (moment : Moment) → StandsAt machine moment
+    → machine.node < length machine.graph.nodes
 standing_low machine (At node history) stands = slice_get_within machine.graph.nodes machine.node node stands.numbered
 standing_low machine (Over outcome) stands = absurd stands
 
@@ -44,25 +45,30 @@ module _ (checked : CheckedParts) (graph : GraphParts) (kept : IsKept (seen chec
   is_there number node at = kept_is_placed program kept node (All-contains (IsKeptNode program) graph.nodes node is.numbered.kept (contained graph.nodes number node at))
 
   -- its function
-  func_at : (number : ℕ) (node : Node) (func : ℕ) → slice_get graph.nodes number ≡ Some node → slice_get graph.funcs number ≡ Some func → func ≡ function_at program node.path
+  func_at : (number : ℕ) (node : Node) (func : ℕ) → slice_get graph.nodes number ≡ Some node
+      → slice_get graph.funcs number ≡ Some func → func ≡ function_at program node.path
   func_at number node func at funcs =
       let of : Node → ℕ = λ (n : Node). function_at program n.path in
       same_Some func (of node) (sym funcs ∙ ap (λ (fs : List ℕ). slice_get fs number) is.funcs ∙ slice_get-map of graph.nodes number ∙ ap (option_map of) at)
 
-  pub instance_at : (number : ℕ) (node : Node) (func : ℕ) → slice_get graph.nodes number ≡ Some node → slice_get graph.funcs number ≡ Some func → IsInstance program node.path func
+  pub instance_at : (number : ℕ) (node : Node) (func : ℕ) → slice_get graph.nodes number ≡ Some node
+      → slice_get graph.funcs number ≡ Some func → IsInstance program node.path func
   instance_at number node func at funcs =
       let there = is_there number node at in
       let same = func_at number node func at funcs in
       record { calls = there.path; func_is = same; there = subst (λ (f : ℕ). f < length program.funcs) (sym same) there.function }
 
-  pub block_at : (number : ℕ) (node : Node) (func : ℕ) → slice_get graph.nodes number ≡ Some node → slice_get graph.funcs number ≡ Some func → HasBlock program func node.block
+  pub block_at : (number : ℕ) (node : Node) (func : ℕ) → slice_get graph.nodes number ≡ Some node
+      → slice_get graph.funcs number ≡ Some func → HasBlock program func node.block
   block_at number node func at funcs = subst (λ (f : ℕ). HasBlock program f node.block) (sym (func_at number node func at funcs)) ((is_there number node at).block)
 
   -- where a node returns, the function of the last call is that of the nodes to which edges lead
   pub caller_at : (number : ℕ) (node : Node) (caller : ℕ) → slice_get graph.nodes number ≡ Some node
       → ((goal : Node) → HasEdge graph number goal → caller ≡ function_at program goal.path) → IsCaller program node.path node.block caller
   caller_at number node caller at each = by_block node.block (λ next leads. edge_to program graph is number node next at leads) where
-    of_return : (path : List ℕ) → IsCallPath program path → ((next : Node) → ReturnLeads program path (Some next) → HasEdge graph number next) → IsCallerOf program path caller
+    of_return : (path : List ℕ) → IsCallPath program path
+        → ((next : Node) → ReturnLeads program path (Some next) → HasEdge graph number next)
+        → IsCallerOf program path caller
     of_return [] calls edge = tt
     of_return (c ∷ path) calls edge =
         let call = calls.0 in

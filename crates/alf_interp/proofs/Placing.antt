@@ -8,7 +8,8 @@ use Rattle.alf_interp.specs.Traces.{AreNumbersOf, IsNodeAt, places_of, last_of, 
 use Rattle.alf_interp.specs.Counts.{AreCounts}
 
 -- its number stands where the node does
-pub numbers_push : (nodes : List Node) (trace : List ℕ) (run : List Node) (n : ℕ) (node : Node) → AreNumbersOf nodes trace run → IsNodeAt nodes n node
+pub numbers_push : (nodes : List Node) (trace : List ℕ) (run : List Node) (n : ℕ) (node : Node)
+    → AreNumbersOf nodes trace run → IsNodeAt nodes n node
     → AreNumbersOf nodes (trace ++ n ∷ []) (run ++ node ∷ [])
 numbers_push nodes [] [] n node are is = (is, tt)
 numbers_push nodes [] (x ∷ run) n node are is = absurd are
@@ -19,7 +20,8 @@ places_push : (trace : List ℕ) (at n : ℕ) → places_of (trace ++ at ∷ [])
 places_push trace at n = sum_by_push (λ m. cond (m == n) 1 0) trace at
 
 -- it is counted once more
-pub counts_push : (nodes : List Node) (trace counts : List ℕ) (at one : ℕ) → at < length counts → one ≡ get_or counts at one → AreCounts nodes trace counts
+pub counts_push : (nodes : List Node) (trace counts : List ℕ) (at one : ℕ) → at < length counts
+    → one ≡ get_or counts at one → AreCounts nodes trace counts
     → AreCounts nodes (trace ++ at ∷ []) (set counts at (one + 1))
 counts_push nodes trace counts at one within is count =
     let zero_is : one ≡ get_or counts at 0 = is ∙ get_or_default_zero counts at one within in
@@ -44,7 +46,8 @@ counts_push nodes trace counts at one within is count =
     }
 
 -- its cost is added
-pub cost_push : (costs trace : List ℕ) (at : ℕ) → cost_of costs (trace ++ at ∷ []) ≡ cost_of costs trace + get_or costs at 0
+pub cost_push : (costs trace : List ℕ) (at : ℕ)
+    → cost_of costs (trace ++ at ∷ []) ≡ cost_of costs trace + get_or costs at 0
 cost_push costs trace at = sum_by_push (λ n. get_or costs n 0) trace at
 
 -- it is the last

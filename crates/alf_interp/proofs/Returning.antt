@@ -16,18 +16,22 @@ record EndsSo (blocks : List NumberedBlock) (b : ℕ) (ending : BlockEnding) : T
   at : slice_get blocks b ≡ Some block
   ends : block.ending ≡ ending
 
-ends_so : (blocks : List NumberedBlock) (b : ℕ) (ending : BlockEnding) → option_map (λ (block : NumberedBlock). block.ending) (slice_get blocks b) ≡ Some ending → EndsSo blocks b ending
+ends_so : (blocks : List NumberedBlock) (b : ℕ) (ending : BlockEnding)
+    → option_map (λ (block : NumberedBlock). block.ending) (slice_get blocks b) ≡ Some ending → EndsSo blocks b ending
 ends_so blocks b ending e = go (slice_get blocks b) refl e where
-  go : (o : Option NumberedBlock) → slice_get blocks b ≡ o → option_map (λ (block : NumberedBlock). block.ending) o ≡ Some ending → EndsSo blocks b ending
+  go : (o : Option NumberedBlock) → slice_get blocks b ≡ o
+      → option_map (λ (block : NumberedBlock). block.ending) o ≡ Some ending → EndsSo blocks b ending
   go None h e = absurd (cc)
   go (Some block) h e = record { block = block; at = h; ends = cc }
 
-given_cell : (rows : List FrameRow) (f : ℕ) (result : Option (ℕ × ℕ)) (e : NumberedExpression) → Gives rows f result (Some e) → HasCellSize rows f e
+given_cell : (rows : List FrameRow) (f : ℕ) (result : Option (ℕ × ℕ)) (e : NumberedExpression)
+    → Gives rows f result (Some e) → HasCellSize rows f e
 given_cell rows f None e h = absurd h
 given_cell rows f (Some to) e h = h
 
 -- what is returned to a call has the size of a cell
-pub returned_cell : (program : NumberedProgram) (c : ℕ) (path : List ℕ) (b : ℕ) (e : NumberedExpression) → IsKept program → IsCallPath program (c ∷ path)
+pub returned_cell : (program : NumberedProgram) (c : ℕ) (path : List ℕ) (b : ℕ) (e : NumberedExpression)
+    → IsKept program → IsCallPath program (c ∷ path)
     → ending_at program (function_at program (c ∷ path)) b ≡ Some (Return (Some e)) → HasCellSize program.frames (function_at program (c ∷ path)) e
 returned_cell program c path b e kept calls ends =
     let call = calls.0 in

@@ -47,7 +47,8 @@ use Rattle.alf_interp.specs.Filling.{ArgumentsHaveRoom, InitsHaveRoom, InputsHav
 -- ---- words
 
 -- the words of what frames hold at first can be stored
-pub fitting_words : (rows : List FrameRow) (owner : Option ℕ) (inits : List InitRow) → All (InitFits rows owner) inits → AllByRecursion IsInitWord inits
+pub fitting_words : (rows : List FrameRow) (owner : Option ℕ) (inits : List InitRow) → All (InitFits rows owner) inits
+    → AllByRecursion IsInitWord inits
 fitting_words rows owner [] fit = tt
 fitting_words rows owner (init ∷ inits) fit =
     let here = All-head (InitFits rows owner) init inits fit in
@@ -66,7 +67,8 @@ export_cell size h =
       at n e cell = subst IsCellSize (sym (grind (arith))) cell
 
 -- the words of inputs can be stored
-pub input_words : (program : NumberedProgram) (rows : List InputRow) (words : List ℕ) → All (KeepsInput program) rows → AllZip IsWord rows words → AllZip IsInputWord rows words
+pub input_words : (program : NumberedProgram) (rows : List InputRow) (words : List ℕ) → All (KeepsInput program) rows
+    → AllZip IsWord rows words → AllZip IsInputWord rows words
 input_words program [] [] keep are = tt
 input_words program [] (word ∷ words) keep are = absurd are
 input_words program (row ∷ rows) [] keep are = absurd are
@@ -78,12 +80,14 @@ input_words program (row ∷ rows) (word ∷ words) keep are =
 -- ---- rooms
 
 -- after a store the same frames are active
-still_active : (owner : Option ℕ) (frame offset size : ℕ) (value : Value) (history : List RunEvent) → is_active owner history ≡ true → is_active owner (events.Store frame offset size value ∷ history) ≡ true
+still_active : (owner : Option ℕ) (frame offset size : ℕ) (value : Value) (history : List RunEvent)
+    → is_active owner history ≡ true → is_active owner (events.Store frame offset size value ∷ history) ≡ true
 still_active None frame offset size value history active = active
 still_active (Some f) frame offset size value history active = active
 
 -- while frames are active, there is room for what they hold at first
-pub inits_room : (rows : List FrameRow) (owner : Option ℕ) (inits : List InitRow) (history : List RunEvent) → is_active owner history ≡ true → All (InitFits rows owner) inits → InitsHaveRoom (shapes_of rows) history inits
+pub inits_room : (rows : List FrameRow) (owner : Option ℕ) (inits : List InitRow) (history : List RunEvent)
+    → is_active owner history ≡ true → All (InitFits rows owner) inits → InitsHaveRoom (shapes_of rows) history inits
 inits_room rows owner [] history active fit = tt
 inits_room rows owner (init ∷ inits) history active fit =
     let here = All-head (InitFits rows owner) init inits fit in
@@ -95,7 +99,8 @@ inits_room rows owner (init ∷ inits) history active fit =
     )
 
 -- the arguments of a function are its frames
-arguments_owned : (program : NumberedProgram) (f : ℕ) (function : NumberedFunction) → IsKept program → slice_get program.funcs f ≡ Some function → All (IsFrameOf program.frames (Some f)) function.args
+arguments_owned : (program : NumberedProgram) (f : ℕ) (function : NumberedFunction) → IsKept program
+    → slice_get program.funcs f ≡ Some function → All (IsFrameOf program.frames (Some f)) function.args
 arguments_owned program f function kept found =
     let keeps = kept.functions f function found in
     all_members (IsFrameOf program.frames (Some f)) function.args (λ arg among.
@@ -103,7 +108,8 @@ arguments_owned program f function kept found =
     subst (IsFrameOf program.frames (Some f)) member.2 (keeps.owned member.0 arg member.1))
 
 -- while the root runs, there is room for the words of inputs
-pub inputs_room : (program : NumberedProgram) (rows : List InputRow) (words : List ℕ) (history : List RunEvent) → IsKept program → is_running history program.root ≡ true
+pub inputs_room : (program : NumberedProgram) (rows : List InputRow) (words : List ℕ) (history : List RunEvent)
+    → IsKept program → is_running history program.root ≡ true
     → All (KeepsInput program) rows → InputsHaveRoom (frames_of program) history rows words
 inputs_room program [] words history kept runs keep = tt
 inputs_room program (row ∷ rows) [] history kept runs keep = tt
@@ -115,7 +121,8 @@ inputs_room program (row ∷ rows) (word ∷ words) history kept runs keep =
       inputs_room program rows words (events.Store row.frame row.offset row.size value ∷ history) kept runs (All-tail (KeepsInput program) row rows keep),
     )
   where
-    of_root : (arg : IsRootArgument program row.frame) (found : FrameRow) → slice_get program.frames row.frame ≡ Some found → found.owner ≡ Some program.root
+    of_root : (arg : IsRootArgument program row.frame) (found : FrameRow)
+        → slice_get program.frames row.frame ≡ Some found → found.owner ≡ Some program.root
     of_root arg found at =
         let owned = arguments_owned program program.root arg.function kept arg.at in
         let own : IsFrameOf program.frames (Some program.root) row.frame = subst (IsFrameOf program.frames (Some program.root)) arg.among.2 (owned arg.among.0 row.frame arg.among.1) in
@@ -128,7 +135,8 @@ inputs_room program (row ∷ rows) (word ∷ words) history kept runs keep =
         here.may
 
 -- while function f runs, there is room for its arguments
-arguments_room : (program : NumberedProgram) (f : ℕ) (args : List ℕ) (values : List Value) (history : List RunEvent) → is_running history f ≡ true
+arguments_room : (program : NumberedProgram) (f : ℕ) (args : List ℕ) (values : List Value) (history : List RunEvent)
+    → is_running history f ≡ true
     → All (IsFrameOf program.frames (Some f)) args → AllZip (FitsFrame program.frames) args values → ArgumentsHaveRoom (frames_of program) history args values
 arguments_room program f [] values history runs owned fit = tt
 arguments_room program f (arg ∷ args) [] history runs owned fit = tt
@@ -143,37 +151,44 @@ arguments_room program f (arg ∷ args) (value ∷ values) history runs owned fi
 
 -- ---- functions entered
 
-arguments_run : (args : List ℕ) (values : List Value) (history : List RunEvent) (f : ℕ) → is_running (with_arguments args values history) f ≡ is_running history f
+arguments_run : (args : List ℕ) (values : List Value) (history : List RunEvent) (f : ℕ)
+    → is_running (with_arguments args values history) f ≡ is_running history f
 arguments_run [] values history f = refl
 arguments_run (arg ∷ args) [] history f = refl
 arguments_run (arg ∷ args) (value ∷ values) history f = arguments_run args values (events.Store arg 0 (size_of value) value ∷ history) f
 
-inits_run : (inits : List InitRow) (history : List RunEvent) (f : ℕ) → is_running (with_inits inits history) f ≡ is_running history f
+inits_run : (inits : List InitRow) (history : List RunEvent) (f : ℕ)
+    → is_running (with_inits inits history) f ≡ is_running history f
 inits_run [] history f = refl
 inits_run (init ∷ inits) history f = inits_run inits (events.Store init.frame init.offset init.num.size (Int init.num.size init.num.bits) ∷ history) f
 
 -- a function that is entered runs, also after its arguments are put
-entered_runs : (f : ℕ) (args : List ℕ) (values : List Value) (history : List RunEvent) → is_running (with_arguments args values (Enter f ∷ history)) f ≡ true
+entered_runs : (f : ℕ) (args : List ℕ) (values : List Value) (history : List RunEvent)
+    → is_running (with_arguments args values (Enter f ∷ history)) f ≡ true
 entered_runs f args values history = arguments_run args values (Enter f ∷ history) f ∙ rw (eq-eqb f f refl) refl
 
 -- so does it when it is entered wholly
-pub entered_is_running : (program : NumberedProgram) (f : ℕ) (values : List Value) (history : List RunEvent) → is_running (entered program f values history) f ≡ true
+pub entered_is_running : (program : NumberedProgram) (f : ℕ) (values : List Value) (history : List RunEvent)
+    → is_running (entered program f values history) f ≡ true
 entered_is_running program f values history = inits_run (inits_at program f) (with_arguments (args_at program f) values (Enter f ∷ history)) f ∙ entered_runs f (args_at program f) values history
 
 -- ---- the values of a call's arguments
 
 -- operands in a row have values: the first, and the others
-record HaveValues (first : Result Value RunFault) (rest : List (Result Value RunFault)) (values : List Value) : Type 0 where
+record HaveValues (first : Result Value RunFault) (rest : List (Result Value RunFault))
+    (values : List Value) : Type 0 where
   value : Value
   others : List Value
   first_is : first ≡ Ok value
   rest_are : operands rest ≡ Ok others
   all : value ∷ others ≡ values
 
-have_values : (first : Result Value RunFault) (rest : List (Result Value RunFault)) (values : List Value) → operands (first ∷ rest) ≡ Ok values → HaveValues first rest values
+have_values : (first : Result Value RunFault) (rest : List (Result Value RunFault)) (values : List Value)
+    → operands (first ∷ rest) ≡ Ok values → HaveValues first rest values
 have_values (Err fault) rest values are = cc
 have_values (Ok value) rest values are = go (operands rest) refl are where
-  go : (r : Result (List Value) RunFault) → operands rest ≡ r → before value r ≡ Ok values → HaveValues (Ok value) rest values
+  go : (r : Result (List Value) RunFault) → operands rest ≡ r → before value r ≡ Ok values
+      → HaveValues (Ok value) rest values
   go (Ok others) is together = record { value = value; others = others; first_is = refl; rest_are = is; all = cc }
   go (Err fault) is together = cc
 
@@ -197,7 +212,8 @@ call_room program f function values history kept found fit =
     (arguments_room program f function.args values (Enter f ∷ history) (rw (eq-eqb f f refl) refl) (arguments_owned program f function kept found) fit)
 
 -- the arguments have sizes
-pub args_typed : (rows : List FrameRow) (caller : ℕ) (args : List ℕ) (es : List NumberedExpression) → AllZip (ArgumentKeeps rows caller) args es → AllByRecursion IsTyped es
+pub args_typed : (rows : List FrameRow) (caller : ℕ) (args : List ℕ) (es : List NumberedExpression)
+    → AllZip (ArgumentKeeps rows caller) args es → AllByRecursion IsTyped es
 args_typed rows caller [] [] keep = tt
 args_typed rows caller [] (e ∷ es) keep = absurd keep
 args_typed rows caller (arg ∷ args) [] keep = absurd keep
@@ -228,7 +244,8 @@ module _ (program : NumberedProgram) where
       (sym (ap (λ (is : List InitRow). with_inits is (with_arguments (args_at program f) values here)) inits_is ∙ ap (λ (as' : List ℕ). with_inits inits (with_arguments as' values here)) args_is)) all
 
   -- there is room for no arguments
-  no_arguments_room : (frames : List FrameShape) (history : List RunEvent) (args : List ℕ) → ArgumentsHaveRoom frames history args []
+  no_arguments_room : (frames : List FrameShape) (history : List RunEvent) (args : List ℕ)
+      → ArgumentsHaveRoom frames history args []
   no_arguments_room frames history [] = tt
   no_arguments_room frames history (arg ∷ args) = tt
 

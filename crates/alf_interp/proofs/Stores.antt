@@ -26,7 +26,8 @@ use Rattle.alf_interp.specs.Typed.{IsTypedStatement}
 use Rattle.alf_interp.specs.Turns.{IsInstance, IsTaken}
 use Rattle.alf_interp.proofs.Returning.{returned_cell}
 
-store_does : (old new : RunMemory) (history : List RunEvent) (at value : Value) (result : Result Unit ValueFault) → Stored old new history at value result → Does new (store (shapes old) history at value) result
+store_does : (old new : RunMemory) (history : List RunEvent) (at value : Value) (result : Result Unit ValueFault)
+    → Stored old new history at value result → Does new (store (shapes old) history at value) result
 store_does old new history at value (Ok u) h = record { history = h.after; is = h.stored; stands = h.stands }
 store_does old new history at value (Err (Run fault)) h = h
 store_does old new history at value (Err Memory) h = tt
@@ -39,13 +40,15 @@ stored_does old new history at value to term result e f h =
     (subst (λ (r : Result Value RunFault). Does new (after_store (shapes old) history (Ok at) r) result) (sym f) (store_does old new history at value result h))
 
 -- statements keep the rules, one by one
-pub statements_typed : (rows : List FrameRow) (k : ℕ) (ss : List NumberedStatement) → All (KeepsStatement rows k) ss → AllByRecursion IsTypedStatement ss
+pub statements_typed : (rows : List FrameRow) (k : ℕ) (ss : List NumberedStatement) → All (KeepsStatement rows k) ss
+    → AllByRecursion IsTypedStatement ss
 statements_typed rows k [] keep = tt
 statements_typed rows k (s ∷ ss) keep =
     (record { rows = rows; function = k; keeps = All-head (KeepsStatement rows k) s ss keep }, statements_typed rows k ss (All-tail (KeepsStatement rows k) s ss keep))
 
 -- what is returned to a call can be stored
-pub taken : (program : NumberedProgram) (path : List ℕ) (f b : ℕ) (e : NumberedExpression) (value : Value) → IsKept program → IsInstance program path f → ending_at program f b ≡ Some (Return (Some e))
+pub taken : (program : NumberedProgram) (path : List ℕ) (f b : ℕ) (e : NumberedExpression) (value : Value)
+    → IsKept program → IsInstance program path f → ending_at program f b ≡ Some (Return (Some e))
     → ((rows : List FrameRow) (function size : ℕ) → HasSize rows function size e → FitsValue size value) → IsTaken path (Some value)
 taken program [] f b e value kept here ends fits = tt
 taken program (c ∷ path) f b e value kept here ends fits =

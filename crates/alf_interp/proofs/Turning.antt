@@ -27,7 +27,8 @@ stands_so machine (At node history) h = record { node = node; history = history;
 stands_so machine (Over outcome) h = absurd h
 
 -- a run so far: after these turns the machine stands at this node, and the nodes before are counted
-pub record SoFar (program : NumberedProgram) (graph : GraphParts) (costs : List ℕ) (begin : Moment) (turn at : ℕ) (counts : List ℕ) (cost : ℕ) (machine : RunMachine) : Type 0 where
+pub record SoFar (program : NumberedProgram) (graph : GraphParts) (costs : List ℕ) (begin : Moment) (turn at : ℕ)
+    (counts : List ℕ) (cost : ℕ) (machine : RunMachine) : Type 0 where
   pub trace : List ℕ
   pub program_is : seen machine.checked ≡ program
   pub graph_is : machine.graph ≡ graph
@@ -74,7 +75,8 @@ module _ (program : NumberedProgram) (graph : GraphParts) (costs : List ℕ) (be
     cost_more = let before = so.costed in let grown = cost_push costs so.trace at in omega arith
 
     -- the run goes on
-    pub goes_on : (to : ℕ) (moved : RunMachine) → moved.checked ≡ machine.checked → moved.graph ≡ machine.graph → to ≡ moved.node → StandsAt moved (step (seen machine.checked) (after program turn begin))
+    pub goes_on : (to : ℕ) (moved : RunMachine) → moved.checked ≡ machine.checked → moved.graph ≡ machine.graph
+        → to ≡ moved.node → StandsAt moved (step (seen machine.checked) (after program turn begin))
         → SoFar program graph costs begin (turn + 1) to (set counts at (one + 1)) (cost + price) moved
     goes_on to moved p g n stands = record {
       trace = so.trace ++ at ∷ [];
@@ -90,7 +92,8 @@ module _ (program : NumberedProgram) (graph : GraphParts) (costs : List ℕ) (be
     }
 
     -- the run is over
-    pub is_over : (turns : ℕ) (tally : Tally) → turn < turns → step (seen machine.checked) (after program turn begin) ≡ Over (outcome_of tally.end)
+    pub is_over : (turns : ℕ) (tally : Tally) → turn < turns
+        → step (seen machine.checked) (after program turn begin) ≡ Over (outcome_of tally.end)
         → tally.counts.items ≡ set counts at (one + 1) → tally.turns ≡ turn + 1 → tally.cost ≡ cost + price → tally.last ≡ at
         → IsCounted program graph.nodes costs begin turns tally
     is_over turns tally less over counts_are turns_are cost_is last_is = record {

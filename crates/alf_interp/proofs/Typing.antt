@@ -28,21 +28,25 @@ use Rattle.alf_runs.specs.SizeLaws.{OperandsHaveSizes}
 use Rattle.alf_interp.specs.Typed.{IsTyped, AreTyped}
 
 -- the first of expressions in a row
-pub first_typed : (sizes : List ℕ) (e : NumberedExpression) (es : NumberedExpressions) → AreTyped sizes (With e es) → IsTyped e
+pub first_typed : (sizes : List ℕ) (e : NumberedExpression) (es : NumberedExpressions) → AreTyped sizes (With e es)
+    → IsTyped e
 first_typed [] e es h = absurd h.have
 first_typed (size ∷ sizes) e es h = record { rows = h.rows; function = h.function; size = size; has = h.have.0 }
 
 -- the others
-pub second_typed : (sizes : List ℕ) (a b : NumberedExpression) (es : NumberedExpressions) → AreTyped sizes (With a (With b es)) → IsTyped b
+pub second_typed : (sizes : List ℕ) (a b : NumberedExpression) (es : NumberedExpressions)
+    → AreTyped sizes (With a (With b es)) → IsTyped b
 second_typed [] a b es h = absurd h.have
 second_typed (size ∷ sizes) a b es h = first_typed sizes b es (record { rows = h.rows; function = h.function; have = h.have.1 })
 
-pub third_typed : (sizes : List ℕ) (a b c : NumberedExpression) (es : NumberedExpressions) → AreTyped sizes (With a (With b (With c es))) → IsTyped c
+pub third_typed : (sizes : List ℕ) (a b c : NumberedExpression) (es : NumberedExpressions)
+    → AreTyped sizes (With a (With b (With c es))) → IsTyped c
 third_typed [] a b c es h = absurd h.have
 third_typed (size ∷ sizes) a b c es h = second_typed sizes b c es (record { rows = h.rows; function = h.function; have = h.have.1 })
 
 -- as many expressions as sizes
-as_many : (rows : List FrameRow) (function : ℕ) (sizes : List ℕ) (es : List NumberedExpression) → HaveSizes rows function sizes (expressions_of es) → length es ≡ length sizes
+as_many : (rows : List FrameRow) (function : ℕ) (sizes : List ℕ) (es : List NumberedExpression)
+    → HaveSizes rows function sizes (expressions_of es) → length es ≡ length sizes
 as_many rows function [] [] h = refl
 as_many rows function [] (e ∷ es) h = absurd h
 as_many rows function (size ∷ sizes) [] h = absurd h
@@ -68,7 +72,8 @@ few_sizes Field m n h = record { some = omega arith; few = omega arith }
 few_sizes Choice m n h = record { some = omega arith; few = omega arith }
 
 -- an operator has one to three operands
-pub few_terms : (op : Op) (sizes : List ℕ) (terms : List Term) → AreTyped (operand_sizes op sizes) (expressions_of (map term_of terms)) → IsFew (length terms)
+pub few_terms : (op : Op) (sizes : List ℕ) (terms : List Term)
+    → AreTyped (operand_sizes op sizes) (expressions_of (map term_of terms)) → IsFew (length terms)
 few_terms op sizes terms typed =
     let many = as_many typed.rows typed.function (operand_sizes op sizes) (map term_of terms) typed.have in
     let long = length-map terms term_of in
@@ -76,13 +81,15 @@ few_terms op sizes terms typed =
 
 -- ---- two and three
 
-pub two_members : {A : Type 0} (xs : List A) (a b : A) → 2 ≤ length xs → length xs < 3 → a ≡ get_or xs 0 a → b ≡ get_or xs 1 b → xs ≡ a ∷ b ∷ []
+pub two_members : {A : Type 0} (xs : List A) (a b : A) → 2 ≤ length xs → length xs < 3 → a ≡ get_or xs 0 a
+    → b ≡ get_or xs 1 b → xs ≡ a ∷ b ∷ []
 two_members [] a b some few e f = absurd (omega arith)
 two_members (x ∷ []) a b some few e f = absurd (omega arith)
 two_members (x ∷ y ∷ []) a b some few e f = cc
 two_members (x ∷ y ∷ z ∷ xs) a b some few e f = absurd (omega arith)
 
-pub three_members : {A : Type 0} (xs : List A) (a b c : A) → 3 ≤ length xs → length xs < 4 → a ≡ get_or xs 0 a → b ≡ get_or xs 1 b → c ≡ get_or xs 2 c → xs ≡ a ∷ b ∷ c ∷ []
+pub three_members : {A : Type 0} (xs : List A) (a b c : A) → 3 ≤ length xs → length xs < 4 → a ≡ get_or xs 0 a
+    → b ≡ get_or xs 1 b → c ≡ get_or xs 2 c → xs ≡ a ∷ b ∷ c ∷ []
 three_members [] a b c some few e f g = absurd (omega arith)
 three_members (x ∷ []) a b c some few e f g = absurd (omega arith)
 three_members (x ∷ y ∷ []) a b c some few e f g = absurd (omega arith)
@@ -91,21 +98,24 @@ three_members (x ∷ y ∷ z ∷ w ∷ xs) a b c some few e f g = absurd (omega 
 
 module _ (frames : List FrameShape) (history : List RunEvent) where
   -- the values of two operands fit
-  pub fit_two : OperandsHaveSizes → (sizes : List ℕ) (a b : NumberedExpression) → AreTyped sizes (With a (With b Empty)) → IsSound history → (x y : Result Value RunFault)
+  pub fit_two : OperandsHaveSizes → (sizes : List ℕ) (a b : NumberedExpression) → AreTyped sizes (With a (With b Empty))
+      → IsSound history → (x y : Result Value RunFault)
       → x ≡ value_of frames history a → y ≡ value_of frames history b → (values : List Value) → operands (x ∷ y ∷ []) ≡ Ok values → EachValueFits sizes values
   fit_two laws sizes a b typed sound x y e f values are =
       laws typed.rows typed.function sizes (With a (With b Empty)) frames history values typed.have sound
       (ap operands (ap (λ (r : Result Value RunFault). r ∷ value_of frames history b ∷ []) (sym e) ∙ ap (λ (r : Result Value RunFault). x ∷ r ∷ []) (sym f)) ∙ are)
 
   -- what three operands give
-  pub results_three : (a b c : NumberedExpression) (x y z : Result Value RunFault) → x ≡ value_of frames history a → y ≡ value_of frames history b → z ≡ value_of frames history c
+  pub results_three : (a b c : NumberedExpression) (x y z : Result Value RunFault) → x ≡ value_of frames history a
+      → y ≡ value_of frames history b → z ≡ value_of frames history c
       → x ∷ y ∷ z ∷ [] ≡ results_of frames history (With a (With b (With c Empty)))
   results_three a b c x y z e f g =
       ap (λ (r : Result Value RunFault). r ∷ y ∷ z ∷ []) e ∙ ap (λ (r : Result Value RunFault). value_of frames history a ∷ r ∷ z ∷ []) f
       ∙ ap (λ (r : Result Value RunFault). value_of frames history a ∷ value_of frames history b ∷ r ∷ []) g
 
   -- and their values fit
-  pub fit_three : OperandsHaveSizes → (sizes : List ℕ) (a b c : NumberedExpression) → AreTyped sizes (With a (With b (With c Empty))) → IsSound history → (x y z : Result Value RunFault)
+  pub fit_three : OperandsHaveSizes → (sizes : List ℕ) (a b c : NumberedExpression)
+      → AreTyped sizes (With a (With b (With c Empty))) → IsSound history → (x y z : Result Value RunFault)
       → x ≡ value_of frames history a → y ≡ value_of frames history b → z ≡ value_of frames history c → (values : List Value) → operands (x ∷ y ∷ z ∷ []) ≡ Ok values → EachValueFits sizes values
   fit_three laws sizes a b c typed sound x y z e f g values are =
       laws typed.rows typed.function sizes (With a (With b (With c Empty))) frames history values typed.have sound (ap operands (sym (results_three a b c x y z e f g)) ∙ are)

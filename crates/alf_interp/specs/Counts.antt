@@ -35,7 +35,8 @@ pub record IsTally (nodes : List Node) (costs trace : List ℕ) (outcome : Outco
   pub end : outcome ≡ outcome_of tally.end
 
 -- so it is of the run from the start, which has no more nodes than the turns
-pub record IsCounted (program : NumberedProgram) (nodes : List Node) (costs : List ℕ) (start : Moment) (turns : ℕ) (tally : Tally) : Type 0 where
+pub record IsCounted (program : NumberedProgram) (nodes : List Node) (costs : List ℕ) (start : Moment) (turns : ℕ)
+    (tally : Tally) : Type 0 where
   pub trace : List ℕ
   pub outcome : Outcome
   pub runs : Runs program nodes start trace outcome

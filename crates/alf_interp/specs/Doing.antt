@@ -46,7 +46,8 @@ abbrev pub GivesAll : Result (List Value) RunFault → Result (Vec Value Global)
 GivesAll due result = MatchResult result (λ values. due ≡ Ok values.items) (λ fault. IsFaultOf due fault)
 
 -- what is due is what the rest makes of a history for which the memory stands, and which has room for the rest
-pub record Continues {A : Type 0} (memory : RunMemory) (Room : List RunEvent → Type 0) (due : A) (rest : List RunEvent → A) : Type 0 where
+pub record Continues {A : Type 0} (memory : RunMemory) (Room : List RunEvent → Type 0) (due : A)
+    (rest : List RunEvent → A) : Type 0 where
   pub history : List RunEvent
   pub stands : StandsFor memory history
   pub room : Room history

@@ -12,7 +12,8 @@ use Rattle.alf_interp.specs.Machines.{RunMachine}
 use Rattle.flow_graph.specs.Edges.{AreFirstEdges}
 
 -- the parts belong together
-pub record IsMachine (program : NumberedProgram) (graph : GraphParts) (firsts : List ℕ) (node : ℕ) (memory : RunMemory) : Type 0 where
+pub record IsMachine (program : NumberedProgram) (graph : GraphParts) (firsts : List ℕ) (node : ℕ)
+    (memory : RunMemory) : Type 0 where
   pub is_graph : IsGraph program graph
   pub are_firsts : AreFirstEdges graph firsts
   pub there : node < length graph.nodes

@@ -23,7 +23,8 @@ abbrev pub AreNumbersOf : List Node → List ℕ → List Node → Type 0
 AreNumbersOf nodes trace run = AllZip (IsNodeAt nodes) trace run
 
 -- the run from the start has this outcome, and the nodes with these numbers
-pub record Runs (program : NumberedProgram) (nodes : List Node) (start : Moment) (trace : List ℕ) (outcome : Outcome) : Type 0 where
+pub record Runs (program : NumberedProgram) (nodes : List Node) (start : Moment) (trace : List ℕ)
+    (outcome : Outcome) : Type 0 where
   pub run : List Node
   pub ends : Ends program start run outcome
   pub numbers : AreNumbersOf nodes trace run

@@ -32,7 +32,9 @@ pub fn count(
     requires rows { KeepInputs (seen checked.now) rows.now }
     requires words { AreWords rows.now words.now }
     requires costs { length costs.now ≡ length graph.now.nodes }
-    ensures { IfOk result (λ counted. Tells (seen checked.now) graph.now.nodes costs.now (start (seen checked.now) rows.now words.now) turns counted) }
+    ensures { IfOk result
+        (λ counted. Tells (seen checked.now) graph.now.nodes costs.now (start (seen checked.now) rows.now words.now)
+        turns counted) }
 {
     a_run_has_one_continuation();
     let mut machine = Machine::start(alloc, checked, graph, rows, words)?;

@@ -11,7 +11,8 @@ ghost use Rattle.alf_values.specs.Standing.{StandsFor, IsStorable};
 ghost use Rattle.alf_runs.specs.Entering.{with_arguments, with_inits, args_at, entered};
 ghost use Rattle.alf_runs.specs.Starts.{with_inputs};
 ghost use Rattle.alf_runs.specs.Steps.{frames_of};
-ghost use Rattle.alf_interp.specs.Filling.{HasRoom, ArgumentsHaveRoom, InitsHaveRoom, InputsHaveRoom, IsInitWord, IsInputWord};
+ghost use Rattle.alf_interp.specs.Filling.{HasRoom, ArgumentsHaveRoom, InitsHaveRoom, InputsHaveRoom, IsInitWord};
+ghost use Rattle.alf_interp.specs.Filling.{IsInputWord};
 
 use alf_check::{Checked, InitRow, InputRow};
 use alf_ops::Value;
@@ -29,7 +30,8 @@ pub fn enter(
     requires storable { AllByRecursion IsStorable values.now }
     ensures made { IsMadeFor (seen checked.now) frames.new }
     ensures entered { OnOk result ((history : List RunEvent) → StandsFor frames.old history
-        → ArgumentsHaveRoom (frames_of (seen checked.now)) (RunEvent.Enter func ∷ history) (args_at (seen checked.now) func) values.now
+        → ArgumentsHaveRoom (frames_of (seen checked.now)) (RunEvent.Enter func ∷ history)
+        (args_at (seen checked.now) func) values.now
         → StandsFor frames.new (entered (seen checked.now) func values.now history)) }
     ensures refused { IfErr result (λ fault. fault ≡ ValueFault.Memory) }
 {
@@ -48,7 +50,8 @@ pub fn put_inits(frames: &mut Frames, inits: &[InitRow])
     requires words { AllByRecursion IsInitWord inits.now }
     ensures shapes { shapes frames.new ≡ shapes frames.old }
     ensures functions { length frames.new.running ≡ length frames.old.running }
-    ensures puts { (history : List RunEvent) → StandsFor frames.old history → InitsHaveRoom (shapes frames.old) history inits.now → StandsFor frames.new (with_inits inits.now history) }
+    ensures puts { (history : List RunEvent) → StandsFor frames.old history
+        → InitsHaveRoom (shapes frames.old) history inits.now → StandsFor frames.new (with_inits inits.now history) }
 {
     let mut rest = inits;
     while let Some((init, others)) = rest.split_first() {
@@ -68,7 +71,9 @@ pub fn put_inputs(frames: &mut Frames, rows: &[InputRow], words: &[u64])
     requires words { AllZip IsInputWord rows.now words.now }
     ensures shapes { shapes frames.new ≡ shapes frames.old }
     ensures functions { length frames.new.running ≡ length frames.old.running }
-    ensures puts { (history : List RunEvent) → StandsFor frames.old history → InputsHaveRoom (shapes frames.old) history rows.now words.now → StandsFor frames.new (with_inputs rows.now words.now history) }
+    ensures puts { (history : List RunEvent) → StandsFor frames.old history
+        → InputsHaveRoom (shapes frames.old) history rows.now words.now
+        → StandsFor frames.new (with_inputs rows.now words.now history) }
 {
     let mut rest = rows;
     let mut left = words;
@@ -87,7 +92,9 @@ fn put_arguments(frames: &mut Frames, args: &[u32], values: &[Value])
     requires storable { AllByRecursion IsStorable values.now }
     ensures shapes { shapes frames.new ≡ shapes frames.old }
     ensures functions { length frames.new.running ≡ length frames.old.running }
-    ensures puts { (history : List RunEvent) → StandsFor frames.old history → ArgumentsHaveRoom (shapes frames.old) history args.now values.now → StandsFor frames.new (with_arguments args.now values.now history) }
+    ensures puts { (history : List RunEvent) → StandsFor frames.old history
+        → ArgumentsHaveRoom (shapes frames.old) history args.now values.now
+        → StandsFor frames.new (with_arguments args.now values.now history) }
 {
     let mut rest = args;
     let mut left = values;
@@ -106,7 +113,8 @@ fn put_word(frames: &mut Frames, frame: u32, offset: u32, size: u32, bits: u64)
     requires { IsStorable (Value.Int size bits) }
     ensures shapes { shapes frames.new ≡ shapes frames.old }
     ensures functions { length frames.new.running ≡ length frames.old.running }
-    ensures puts { (history : List RunEvent) → StandsFor frames.old history → HasRoom (shapes frames.old) history frame offset (Value.Int size bits)
+    ensures puts { (history : List RunEvent) → StandsFor frames.old history
+        → HasRoom (shapes frames.old) history frame offset (Value.Int size bits)
         → StandsFor frames.new (RunEvent.Store frame offset size (Value.Int size bits) ∷ history) }
 {
     put(frames, frame, offset, Value::Int { size, bits });
@@ -117,7 +125,8 @@ fn put(frames: &mut Frames, frame: u32, offset: u32, value: Value)
     requires { IsStorable value }
     ensures shapes { shapes frames.new ≡ shapes frames.old }
     ensures functions { length frames.new.running ≡ length frames.old.running }
-    ensures puts { (history : List RunEvent) → StandsFor frames.old history → HasRoom (shapes frames.old) history frame offset value
+    ensures puts { (history : List RunEvent) → StandsFor frames.old history
+        → HasRoom (shapes frames.old) history frame offset value
         → StandsFor frames.new (RunEvent.Store frame offset (size_of value) value ∷ history) }
 {
     // The store has no fault here, so that its answer says nothing.

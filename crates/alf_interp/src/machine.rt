@@ -101,7 +101,9 @@ impl<'a> Machine<'a> {
         requires { IsStanding self.old }
         ensures checked { self.new.checked ≡ self.old.checked }
         ensures graph { self.new.graph ≡ self.old.graph }
-        ensures steps { IfOk result (λ moved. (moment : Moment) → StandsAt self.old moment → Tells self.new moved (step (seen self.old.checked) moment)) }
+        ensures steps { IfOk result
+            (λ moved. (moment : Moment) → StandsAt self.old moment
+            → Tells self.new moved (step (seen self.old.checked) moment)) }
     {
         let moved = move_on(
             self.alloc,
@@ -143,8 +145,10 @@ fn move_on(
     requires standing { IsStanding (machine_at checked.now graph.now node frames.old) }
     ensures made { IsMadeFor (seen checked.now) frames.new }
     ensures there { IfOk result (λ moved. next_number node moved < length graph.now.nodes) }
-    ensures tells { IfOk result (λ moved. (moment : Moment) → StandsAt (machine_at checked.now graph.now node frames.old) moment
-        → Tells (machine_at checked.now graph.now (next_number node moved) frames.new) moved (step (seen checked.now) moment)) }
+    ensures tells { IfOk result
+        (λ moved. (moment : Moment) → StandsAt (machine_at checked.now graph.now node frames.old) moment
+        → Tells (machine_at checked.now graph.now (next_number node moved) frames.new) moved
+        (step (seen checked.now) moment)) }
 {
     checked.keeps();
     a_step_leads_along_an_edge();

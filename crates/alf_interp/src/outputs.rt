@@ -23,7 +23,9 @@ pub fn outputs_of(
     returned: Option<Value>,
 ) -> Result<Outputs, AllocError>
     requires { IsMadeFor (seen checked.now) frames.now }
-    ensures { IfOk result (λ told. (history : List RunEvent) → StandsFor frames.now history → outputs (seen checked.now) returned history ≡ outputs_of told) }
+    ensures { IfOk result
+        (λ told. (history : List RunEvent) → StandsFor frames.now history
+        → outputs (seen checked.now) returned history ≡ outputs_of told) }
 {
     let mut globals = Vec::new(alloc);
     let exports = checked.exports();
@@ -37,7 +39,8 @@ pub fn outputs_of(
 fn exported(checked: &Checked, frames: &Frames, frame: u32) -> Option<Value>
     requires made { IsMadeFor (seen checked.now) frames.now }
     requires keeps { KeepsExport (seen checked.now).frames frame }
-    ensures { (history : List RunEvent) → StandsFor frames.now history → result ≡ exported (seen checked.now) history frame }
+    ensures { (history : List RunEvent) → StandsFor frames.now history
+        → result ≡ exported (seen checked.now) history frame }
 {
     let bits = checked.frames()[frame as usize].bits;
     match frames.load(Value::Ptr { frame, offset: 0 }, bits) {

@@ -20,7 +20,8 @@ pub fn run_statements(frames: &mut Frames, acts: &[Act]) -> Result<(), ValueFaul
     requires remembers { Remembers frames.old }
     ensures shapes { shapes frames.new ≡ shapes frames.old }
     ensures functions { length frames.new.running ≡ length frames.old.running }
-    ensures does { (history : List RunEvent) → StandsFor frames.old history → Does frames.new (after_statements (shapes frames.old) (map act_of acts.now) (Ok history)) result }
+    ensures does { (history : List RunEvent) → StandsFor frames.old history
+        → Does frames.new (after_statements (shapes frames.old) (map act_of acts.now) (Ok history)) result }
 {
     let mut rest = acts;
     while let Some((act, others)) = rest.split_first() {
@@ -36,7 +37,8 @@ fn run_statement(frames: &mut Frames, act: &Act) -> Result<(), ValueFault>
     requires remembers { Remembers frames.old }
     ensures shapes { shapes frames.new ≡ shapes frames.old }
     ensures functions { length frames.new.running ≡ length frames.old.running }
-    ensures does { (history : List RunEvent) → StandsFor frames.old history → Does frames.new (after_statement (shapes frames.old) (act_of act.now) history) result }
+    ensures does { (history : List RunEvent) → StandsFor frames.old history
+        → Does frames.new (after_statement (shapes frames.old) (act_of act.now) history) result }
 {
     match act {
         Act::Null => Ok(()),
@@ -51,7 +53,8 @@ fn store(frames: &mut Frames, to: &Term, term: &Term) -> Result<(), ValueFault>
     ensures shapes { shapes frames.new ≡ shapes frames.old }
     ensures functions { length frames.new.running ≡ length frames.old.running }
     ensures does { (history : List RunEvent) → StandsFor frames.old history
-        → Does frames.new (after_statement (shapes frames.old) (Store (term_of to.now) (term_of term.now)) history) result }
+        → Does frames.new (after_statement (shapes frames.old) (Store (term_of to.now) (term_of term.now)) history)
+        result }
 {
     let place = value(frames, to)?;
     let stored = value(frames, term)?;

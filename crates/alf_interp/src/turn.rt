@@ -13,7 +13,8 @@ ghost use Rattle.flow_graph.specs.Places.{node_at};
 ghost use Rattle.alf_runs.specs.Expressions.{value_of};
 ghost use Rattle.alf_runs.specs.Outcomes.{Ended, outputs};
 ghost use Rattle.alf_runs.specs.PlaceLaws.{IsPlaced};
-ghost use Rattle.alf_runs.specs.Steps.{At, Over, step, frames_of, target_of, switch_step, call_step, result_step, go_back, leave, ending_step, block_step};
+ghost use Rattle.alf_runs.specs.Steps.{At, Over, step, frames_of, target_of, switch_step, call_step, result_step};
+ghost use Rattle.alf_runs.specs.Steps.{go_back, leave, ending_step, block_step};
 ghost use Rattle.alf_interp.specs.Doing.{Remembers};
 ghost use Rattle.alf_interp.specs.Typed.{IsTyped};
 ghost use Rattle.alf_interp.specs.Turns.{Turns, IsKeptCall, IsInstance, IsCaller, IsCallerOf, IsTaken};
@@ -86,8 +87,12 @@ fn run_block(
     requires remembers { Remembers frames.old }
     ensures made { IsMadeFor (seen checked.now) frames.new }
     ensures turns { (history : List RunEvent) → StandsFor frames.old history
-        → IsPlaced (seen checked.now) (block_step (seen checked.now) (reverse instance.now.path.now) block (slice_get (blocks_at (seen checked.now) instance.now.func) block) history)
-        → Turns frames.new (block_step (seen checked.now) (reverse instance.now.path.now) block (slice_get (blocks_at (seen checked.now) instance.now.func) block) history) result }
+        → IsPlaced (seen checked.now)
+        (block_step (seen checked.now) (reverse instance.now.path.now) block
+        (slice_get (blocks_at (seen checked.now) instance.now.func) block) history)
+        → Turns frames.new
+        (block_step (seen checked.now) (reverse instance.now.path.now) block
+        (slice_get (blocks_at (seen checked.now) instance.now.func) block) history) result }
 {
     let row = checked.block(instance.func, block);
     run_statements(frames, &row.stmts)?;
@@ -111,8 +116,10 @@ fn end_block(
     requires remembers { Remembers frames.old }
     ensures made { IsMadeFor (seen checked.now) frames.new }
     ensures turns { (history : List RunEvent) → StandsFor frames.old history
-        → IsPlaced (seen checked.now) (ending_step (seen checked.now) (reverse instance.now.path.now) block (end_of end.now) history)
-        → Turns frames.new (ending_step (seen checked.now) (reverse instance.now.path.now) block (end_of end.now) history) result }
+        → IsPlaced (seen checked.now)
+        (ending_step (seen checked.now) (reverse instance.now.path.now) block (end_of end.now) history)
+        → Turns frames.new
+        (ending_step (seen checked.now) (reverse instance.now.path.now) block (end_of end.now) history) result }
 {
     checked.keeps();
     match end {
@@ -138,7 +145,8 @@ fn switch(
     requires typed { IsTyped (term_of term.now) }
     requires remembers { Remembers frames.now }
     ensures { (path : List ℕ) (history : List RunEvent) → StandsFor frames.now history
-        → Turns frames.now (switch_step path targets.now others history (value_of (shapes frames.now) history (term_of term.now))) result }
+        → Turns frames.now
+        (switch_step path targets.now others history (value_of (shapes frames.now) history (term_of term.now))) result }
 {
     match value(frames, term)? {
         Value::Int { bits, .. } => Ok(Turn::On(Some(target_of(targets, others, bits)))),
@@ -173,7 +181,9 @@ fn call(
     requires remembers { Remembers frames.old }
     ensures made { IsMadeFor (seen checked.now) frames.new }
     ensures turns { (path : List ℕ) (block : ℕ) (history : List RunEvent) → StandsFor frames.old history
-        → Turns frames.new (call_step (seen checked.now) path block func history (operands (map (value_of (frames_of (seen checked.now)) history) (map term_of args.now)))) result }
+        → Turns frames.new
+        (call_step (seen checked.now) path block func history
+        (operands (map (value_of (frames_of (seen checked.now)) history) (map term_of args.now)))) result }
 {
     checked.keeps();
     values_have_their_size();
@@ -215,7 +225,8 @@ fn end(
     frames: &Frames,
 ) -> Result<Turn, ValueFault>
     requires { IsMadeFor (seen checked.now) frames.now }
-    ensures { (history : List RunEvent) → StandsFor frames.now history → Turns frames.now (Over (Ended (outputs (seen checked.now) returned history))) result }
+    ensures { (history : List RunEvent) → StandsFor frames.now history
+        → Turns frames.now (Over (Ended (outputs (seen checked.now) returned history))) result }
 {
     match outputs_of(alloc, checked, frames, returned) {
         Ok(outputs) => Ok(Turn::Ended(outputs)),
@@ -237,8 +248,10 @@ fn go_back(
     requires made { IsMadeFor (seen checked.now) frames.old }
     ensures made { IsMadeFor (seen checked.now) frames.new }
     ensures turns { (path : List ℕ) (history : List RunEvent) → StandsFor frames.old history
-        → IsPlaced (seen checked.now) (go_back (seen checked.now) path (ending_at (seen checked.now) caller block) returned history)
-        → Turns frames.new (go_back (seen checked.now) path (ending_at (seen checked.now) caller block) returned history) result }
+        → IsPlaced (seen checked.now)
+        (go_back (seen checked.now) path (ending_at (seen checked.now) caller block) returned history)
+        → Turns frames.new
+        (go_back (seen checked.now) path (ending_at (seen checked.now) caller block) returned history) result }
 {
     checked.keeps();
     match &checked.block(caller, block).end {
@@ -261,7 +274,8 @@ fn store_result(
     requires storable { IfSome returned IsStorable }
     ensures shapes { shapes frames.new ≡ shapes frames.old }
     ensures functions { length frames.new.running ≡ length frames.old.running }
-    ensures turns { (program : NumberedProgram) (path : List ℕ) (history : List RunEvent) → shapes frames.old ≡ frames_of program → StandsFor frames.old history
+    ensures turns { (program : NumberedProgram) (path : List ℕ) (history : List RunEvent)
+        → shapes frames.old ≡ frames_of program → StandsFor frames.old history
         → IsPlaced program (result_step program path next to returned history)
         → Turns frames.new (result_step program path next to returned history) result }
 {

@@ -29,7 +29,8 @@ use std::alloc::Global;
 pub fn evaluate(frames: &Frames, term: &Term) -> Result<Value, RunFault>
     requires typed { IsTyped (term_of term.now) }
     requires remembers { Remembers frames.now }
-    ensures { (history : List RunEvent) → StandsFor frames.now history → result ≡ value_of (shapes frames.now) history (term_of term.now) }
+    ensures { (history : List RunEvent) → StandsFor frames.now history
+        → result ≡ value_of (shapes frames.now) history (term_of term.now) }
 {
     match term {
         Term::Num(num) => Ok(Value::Int {
@@ -55,7 +56,9 @@ fn operate(frames: &Frames, op: Op, sizes: &[u32], terms: &[Term]) -> Result<Val
     requires typed { AreTyped (operand_sizes op sizes.now) (expressions_of (map term_of terms.now)) }
     requires remembers { Remembers frames.now }
     ensures { (history : List RunEvent) → StandsFor frames.now history
-        → result ≡ outcome_of_operands op sizes.now (operands (results_of (shapes frames.now) history (expressions_of (map term_of terms.now)))) }
+        → result
+        ≡ outcome_of_operands op sizes.now
+        (operands (results_of (shapes frames.now) history (expressions_of (map term_of terms.now)))) }
 {
     values_have_their_size();
     match terms {
@@ -80,7 +83,8 @@ fn applied(op: Op, sizes: &[u32], results: &[Result<Value, RunFault>]) -> Result
     requires some { 1 ≤ length results.now }
     requires few { length results.now ≤ 3 }
     requires shaped { IsSome (result_size op sizes.now) }
-    requires fitting { (values : List Value) → operands results.now ≡ Ok values → EachValueFits (operand_sizes op sizes.now) values }
+    requires fitting { (values : List Value) → operands results.now ≡ Ok values
+        → EachValueFits (operand_sizes op sizes.now) values }
     ensures { result ≡ outcome_of_operands op sizes.now (operands results.now) }
 {
     match results {
@@ -104,8 +108,10 @@ fn applied(op: Op, sizes: &[u32], results: &[Result<Value, RunFault>]) -> Result
 pub fn value(frames: &Frames, term: &Term) -> Result<Value, ValueFault>
     requires typed { IsTyped (term_of term.now) }
     requires remembers { Remembers frames.now }
-    ensures gives { (history : List RunEvent) → StandsFor frames.now history → Gives (value_of (shapes frames.now) history (term_of term.now)) result }
-    ensures fits { (rows : List FrameRow) (function size : ℕ) → HasSize rows function size (term_of term.now) → IfOk result (λ value. FitsValue size value) }
+    ensures gives { (history : List RunEvent) → StandsFor frames.now history
+        → Gives (value_of (shapes frames.now) history (term_of term.now)) result }
+    ensures fits { (rows : List FrameRow) (function size : ℕ) → HasSize rows function size (term_of term.now)
+        → IfOk result (λ value. FitsValue size value) }
 {
     values_have_their_size();
     match evaluate(frames, term) {

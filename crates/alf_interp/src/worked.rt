@@ -10,5 +10,6 @@ pub fn traces_are_counted_and_added_up()
     ensures none { last_of [] ≡ None }
     ensures places { places_of (0 ∷ 2 ∷ 0 ∷ []) 0 ≡ 2 }
     ensures cost { cost_of (3 ∷ 5 ∷ 7 ∷ []) (0 ∷ 2 ∷ 0 ∷ []) ≡ 13 }
-    ensures numbers { AreNumbersOf (entry_node [] ∷ block_node [] 0 ∷ []) (1 ∷ 0 ∷ []) (block_node [] 0 ∷ entry_node [] ∷ []) }
+    ensures numbers { AreNumbersOf (entry_node [] ∷ block_node [] 0 ∷ []) (1 ∷ 0 ∷ [])
+        (block_node [] 0 ∷ entry_node [] ∷ []) }
 {}

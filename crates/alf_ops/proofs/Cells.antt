@@ -39,7 +39,8 @@ not_empty (Some byte) some = refl
 
 module _ (from : ℕ → Option Byte) (offset size : ℕ) where
   -- a byte without a store
-  empty_byte : (byte : ℕ) → is_byte_of offset size byte ≡ true → from byte ≡ None → cell_in from offset size ≡ Err Uninit
+  empty_byte : (byte : ℕ) → is_byte_of offset size byte ≡ true → from byte ≡ None
+      → cell_in from offset size ≡ Err Uninit
   empty_byte byte inside none =
       let ends = cell_ends offset size byte inside in
       let some : list_any is_empty (map from (bytes_of offset size)) ≡ true = some_pass is_empty from offset (size / 8) byte ends.0 ends.1 (ap is_empty none) in
@@ -57,7 +58,8 @@ module _ (from : ℕ → Option Byte) (offset size : ℕ) where
         (λ all. absurd (false≢true (sym apart ∙ each_passes (is_from offset size) from offset (size / 8) all other ends.0 ends.1)))
         (λ e. e)
 
-    pointer_byte : (byte : ℕ) → is_byte_of offset size byte ≡ true → of_pointer (from byte) ≡ true → cell_in from offset size ≡ Err Mixed
+    pointer_byte : (byte : ℕ) → is_byte_of offset size byte ≡ true → of_pointer (from byte) ≡ true
+        → cell_in from offset size ≡ Err Mixed
     pointer_byte byte at pointer =
         let ends = cell_ends offset size byte at in
         let some : list_any of_pointer (map from (bytes_of offset size)) ≡ true = some_pass of_pointer from offset (size / 8) byte ends.0 ends.1 pointer in
@@ -97,7 +99,8 @@ load_word row frames history frame offset size is several words = record {
   bytes = byte_at (origin row.owner frame history) offset (size / 8);
 }
   where
-    no_pointer : (o : Option Byte) → ((left : Byte) → o ≡ Some left → is_pointer left.value ≡ false) → of_pointer o ≡ false
+    no_pointer : (o : Option Byte) → ((left : Byte) → o ≡ Some left → is_pointer left.value ≡ false)
+        → of_pointer o ≡ false
     no_pointer None each = refl
     no_pointer (Some left) each = each left refl
 
@@ -105,7 +108,8 @@ load_word row frames history frame offset size is several words = record {
 module _ (from : ℕ → Option Byte) (offset size bits place width : ℕ) (small : bits < 2 ^ size) (is : IsCell width) (within : 8 * place + width ≤ size)
     (each : (byte : ℕ) → offset + place ≤ byte → byte < offset + place + width / 8 → from byte ≡ Some (left_by offset size (Int size bits) byte)) where
   -- of the whole word
-  whole_read : place ≡ 0 → width ≡ size → cell_in from (offset + place) width ≡ Ok (Int width (bits / 2 ^ (8 * place) % 2 ^ width))
+  whole_read : place ≡ 0 → width ≡ size
+      → cell_in from (offset + place) width ≡ Ok (Int width (bits / 2 ^ (8 * place) % 2 ^ width))
   whole_read none same =
       let start : offset ≡ offset + place = omega arith in
       let value : bits ≡ bits / 2 ^ (8 * place) % 2 ^ width =
@@ -114,7 +118,8 @@ module _ (from : ℕ → Option Byte) (offset size bits place width : ℕ) (smal
       ∙ (λ i. Ok (Int (sym same i) (value i)))
 
   -- of a part of it
-  part_read : ((place ≡ 0) → (width ≡ size) → ⊥) → cell_in from (offset + place) width ≡ Ok (Int width (bits / 2 ^ (8 * place) % 2 ^ width))
+  part_read : ((place ≡ 0) → (width ≡ size) → ⊥)
+      → cell_in from (offset + place) width ≡ Ok (Int width (bits / 2 ^ (8 * place) % 2 ^ width))
   part_read part =
       let first : offset + place < offset + place + width / 8 = omega (arith, is.0) in
       let apart : is_from (offset + place) width (from (offset + place)) ≡ false =
@@ -149,7 +154,8 @@ reads_back frames history after frame offset size bits place width is small cell
     ∙ (let covered : is_byte_of offset size byte ≡ true = in_cell offset size byte (omega arith) (omega (arith, cell.1)) in rw covered refl))
 
 -- a cell of a table whose bytes are of sound stores gives a value of its size
-by_reading : (from : ℕ → Option Byte) (offset size : ℕ) (value : Value) (r : Result Value RunFault) → IsTable from → IsCell size
+by_reading : (from : ℕ → Option Byte) (offset size : ℕ) (value : Value) (r : Result Value RunFault) → IsTable from
+    → IsCell size
     → r ≡ cell_in from offset size → Reading (map from (bytes_of offset size)) offset size r → r ≡ Ok value → FitsValue size value
 by_reading from offset size value r table cell same (reads_empty none e) is = let f : Err Uninit ≡ Ok value = sym e ∙ is in cc
 by_reading from offset size value r table cell same (reads_whole some whole e) is =
@@ -164,7 +170,8 @@ by_reading from offset size value r table cell same (reads_word some many words 
     subst (λ (x : Value). FitsValue size x) w (refl, word_below_size from offset size)
 
 -- a load of a sound history gives a value of the size that is loaded
-pub load_fits : (frames : List FrameShape) (history : List RunEvent) (place value : Value) (size : ℕ) → IsSound history → IsCell size
+pub load_fits : (frames : List FrameShape) (history : List RunEvent) (place value : Value) (size : ℕ) → IsSound history
+    → IsCell size
     → load frames history place size ≡ Ok value → FitsValue size value
 load_fits frames history (Int own word) value size sound cell is = cc
 load_fits frames history (Ptr frame offset) value size sound cell is =
@@ -173,6 +180,7 @@ load_fits frames history (Ptr frame offset) value size sound cell is =
     (reading (origin c.0.owner frame history) offset size) (sym (load_cell c.0 frames history frame offset size c.1) ∙ is)
 
 -- a result is exactly one of a value and a fault
-pub exactly_one : {A B : Type 0} (r : Result A B) → (((a : A) × (r ≡ Ok a)) ⊎ ((b : B) × (r ≡ Err b))) × ((a : A) (b : B) → r ≡ Ok a → r ≡ Err b → ⊥)
+pub exactly_one : {A B : Type 0} (r : Result A B)
+    → (((a : A) × (r ≡ Ok a)) ⊎ ((b : B) × (r ≡ Err b))) × ((a : A) (b : B) → r ≡ Ok a → r ≡ Err b → ⊥)
 exactly_one (Ok a) = (inl (a, refl), λ b c e f. cc)
 exactly_one (Err b) = (inr (b, refl), λ a c e f. cc)

@@ -27,7 +27,8 @@ module _ {A B : Type 0} (R : A → B → Type 0) where
   each_place (x ∷ xs) (y ∷ ys) each = (each 0, each_place xs ys (λ i. each (suc i)))
 
   -- nothing stands past the third place
-  neither : (xs : List A) (ys : List B) (i : ℕ) → length xs ≤ i → length ys ≤ i → FitsAt R (slice_get xs i) (slice_get ys i)
+  neither : (xs : List A) (ys : List B) (i : ℕ) → length xs ≤ i → length ys ≤ i
+      → FitsAt R (slice_get xs i) (slice_get ys i)
   neither [] [] zero few_xs few_ys = tt
   neither [] [] (suc i) few_xs few_ys = tt
   neither [] (y ∷ ys) zero few_xs few_ys = absurd (omega arith)
@@ -43,7 +44,8 @@ module _ {A B : Type 0} (R : A → B → Type 0) where
     λ places. each_place xs ys (at places),
   )
     where
-      at : (length ys ≤ 3) × FitsAt R (slice_get xs 0) (slice_get ys 0) × FitsAt R (slice_get xs 1) (slice_get ys 1) × FitsAt R (slice_get xs 2) (slice_get ys 2)
+      at : (length ys ≤ 3) × FitsAt R (slice_get xs 0) (slice_get ys 0) × FitsAt R (slice_get xs 1) (slice_get ys 1)
+          × FitsAt R (slice_get xs 2) (slice_get ys 2)
           → (i : ℕ) → FitsAt R (slice_get xs i) (slice_get ys i)
       at places zero = places.1
       at places (suc zero) = places.2

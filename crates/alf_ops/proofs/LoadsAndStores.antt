@@ -15,16 +15,19 @@ use Rattle.alf_ops.specs.TableLaws.{put_same, put_other, same_cell, origin_store
 use Rattle.lists.specs.TestLaws.{by_test}
 
 -- a load of a cell that lies in an active frame gives what the cell gives
-pub load_cell : (row : FrameShape) (frames : List FrameShape) (history : List RunEvent) (frame offset size : ℕ) → IsCellOf row frames history frame offset size
+pub load_cell : (row : FrameShape) (frames : List FrameShape) (history : List RunEvent) (frame offset size : ℕ)
+    → IsCellOf row frames history frame offset size
     → load frames history (Ptr frame offset) size ≡ cell_in (origin row.owner frame history) offset size
 load_cell row frames history frame offset size is = rw (is.known, is.active, le-leb (offset * 8 + size) row.bits is.within) refl
 
 -- a load that gives a value is of such a cell
-pub cell_loaded : (frames : List FrameShape) (history : List RunEvent) (frame offset size : ℕ) (value : Value) → load frames history (Ptr frame offset) size ≡ Ok value
+pub cell_loaded : (frames : List FrameShape) (history : List RunEvent) (frame offset size : ℕ) (value : Value)
+    → load frames history (Ptr frame offset) size ≡ Ok value
     → (row : FrameShape) × IsCellOf row frames history frame offset size
 cell_loaded frames history frame offset size value is = of_row (slice_get frames frame) refl is
   where
-    of_row : (row : Option FrameShape) → slice_get frames frame ≡ row → loaded history size (address_in row history frame offset size) ≡ Ok value
+    of_row : (row : Option FrameShape) → slice_get frames frame ≡ row
+        → loaded history size (address_in row history frame offset size) ≡ Ok value
         → (row : FrameShape) × IsCellOf row frames history frame offset size
     of_row None known is = cc
     of_row (Some row) known is = by_test (is_active row.owner history)
@@ -34,15 +37,18 @@ cell_loaded frames history frame offset size value is = of_row (slice_get frames
         (λ dead. let e : Err Dead ≡ Ok value = rw dead at is in cc)
 
 -- a store that is no fault is in such a cell, and adds its event
-pub record IsStored (row : FrameShape) (frames : List FrameShape) (history after : List RunEvent) (frame offset : ℕ) (value : Value) : Type 0 where
+pub record IsStored (row : FrameShape) (frames : List FrameShape) (history after : List RunEvent) (frame offset : ℕ)
+    (value : Value) : Type 0 where
   pub cell : IsCellOf row frames history frame offset (size_of value)
   pub after_is : after ≡ Store frame offset (size_of value) value ∷ history
 
-pub is_stored : (frames : List FrameShape) (history after : List RunEvent) (frame offset : ℕ) (value : Value) → store frames history (Ptr frame offset) value ≡ Ok after
+pub is_stored : (frames : List FrameShape) (history after : List RunEvent) (frame offset : ℕ) (value : Value)
+    → store frames history (Ptr frame offset) value ≡ Ok after
     → (row : FrameShape) × IsStored row frames history after frame offset value
 is_stored frames history after frame offset value is = of_row (slice_get frames frame) refl is
   where
-    of_row : (row : Option FrameShape) → slice_get frames frame ≡ row → stored history value (address_in row history frame offset (size_of value)) ≡ Ok after
+    of_row : (row : Option FrameShape) → slice_get frames frame ≡ row
+        → stored history value (address_in row history frame offset (size_of value)) ≡ Ok after
         → (row : FrameShape) × IsStored row frames history after frame offset value
     of_row None known is = cc
     of_row (Some row) known is = by_test (is_active row.owner history)
@@ -76,7 +82,8 @@ cell_after row frames history after frame offset value place size is within = re
   within = within;
 }
 
-pub store_then_load : (frames : List FrameShape) (history after : List RunEvent) (place value : Value) → 0 < size_of value / 8
+pub store_then_load : (frames : List FrameShape) (history after : List RunEvent) (place value : Value)
+    → 0 < size_of value / 8
     → store frames history place value ≡ Ok after → load frames after place (size_of value) ≡ Ok value
 store_then_load frames history after (Int size bits) value some is = cc
 store_then_load frames history after (Ptr frame offset) value some is =
@@ -131,7 +138,8 @@ store_elsewhere frames history after frame offset value other place size is apar
 -- ---- functions entered and left
 
 -- a cell none of whose bytes has a store
-empty_cell : (from : ℕ → Option Byte) (offset count size : ℕ) → ((byte : ℕ) → from byte ≡ None) → contents (map from (offsets offset count)) offset size ≡ Err Uninit
+empty_cell : (from : ℕ → Option Byte) (offset count size : ℕ) → ((byte : ℕ) → from byte ≡ None)
+    → contents (map from (offsets offset count)) offset size ≡ Err Uninit
 empty_cell from offset zero size none = refl
 empty_cell from offset (suc count) size none = rw (none offset) refl
 

@@ -56,7 +56,8 @@ shifted_out_low a b below past = grind (arith, pow_mono past, pow_pos b)
 pub signed_high : (size a : ℕ) → sign (signed size a) ≡ true → a < 2 ^ size → signed size a ≡ negsuc (2 ^ size - suc a)
 signed_high size a high below = grind (arith, ints)
 
-pub word_extended : (m n a : ℕ) → m ≤ n → a < 2 ^ m → sign (signed m a) ≡ true → a + (2 ^ n - 2 ^ m) ≡ word n (signed m a)
+pub word_extended : (m n a : ℕ) → m ≤ n → a < 2 ^ m → sign (signed m a) ≡ true
+    → a + (2 ^ n - 2 ^ m) ≡ word n (signed m a)
 word_extended m n a wider below high = rw (signed_high m a high below) (grind (arith, pow_mono wider, mod_small))
 
 -- a word without its highest bit
@@ -118,7 +119,8 @@ pub one_kept : (a b m : ℕ) → a < 2 ^ m → b < 2 ^ m → bit_xor a b ≡ bit
 one_kept a b m below_a below_b = sym (mod_small (bit_xor a b) (2 ^ m) (xor_lt m a b below_a below_b))
 
 -- a word that is not negative, shifted to lower places
-pub low_shifted : (size a b : ℕ) → a < 2 ^ size → sign (signed size a) ≡ false → a / 2 ^ b ≡ word size (int_div_euclid (signed size a) (pos (2 ^ b)))
+pub low_shifted : (size a b : ℕ) → a < 2 ^ size → sign (signed size a) ≡ false
+    → a / 2 ^ b ≡ word size (int_div_euclid (signed size a) (pos (2 ^ b)))
 low_shifted size a b below low = rw (signed_low size a low below) (shift_kept a b size below)
 
 -- the remainder of two words, by the quotient

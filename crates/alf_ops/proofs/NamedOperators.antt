@@ -21,7 +21,8 @@ names_apart [] = true
 names_apart (name ∷ names) = list_all (λ other. not (bytes_eq name other)) names && names_apart names
 
 -- the name is none of these
-apart_from : (name : List ℕ) (names : List (List ℕ)) → list_all (λ other. not (bytes_eq name other)) names ≡ true → All (λ other. name ≢ other) names
+apart_from : (name : List ℕ) (names : List (List ℕ)) → list_all (λ other. not (bytes_eq name other)) names ≡ true
+    → All (λ other. name ≢ other) names
 apart_from name [] passed = All-nil (λ other. name ≢ other)
 apart_from name (other ∷ names) passed =
     All-cons (λ other. name ≢ other) other names
@@ -52,7 +53,8 @@ told_rows (row ∷ rows) passed = All-cons TellsOperator row rows
     (told_rows rows (grind (arith, common_steps)))
 
 -- the row at the place of an operator tells its name
-pub told_at : (rows : List OpRow) (i : ℕ) (d : OpRow) (op : Op) → map (λ row. row.op) rows ≡ operators → All TellsOperator rows → slice_get operators i ≡ Some op
+pub told_at : (rows : List OpRow) (i : ℕ) (d : OpRow) (op : Op) → map (λ row. row.op) rows ≡ operators
+    → All TellsOperator rows → slice_get operators i ≡ Some op
     → name_of (slice_index_or rows i d) ≡ spelling op
 told_at rows i d op order told at_place =
     let e : slice_get (map (λ row. row.op) rows) i ≡ Some op = ap (λ (ops : List Op). slice_get ops i) order ∙ at_place in

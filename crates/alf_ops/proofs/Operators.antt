@@ -30,7 +30,8 @@ is_carried size a b bit above = rw (le-leb (2 ^ size) (a + b + bit) above) refl
 is_not_carried : (size a b bit : ℕ) → a + b + bit < 2 ^ size → with_bit CAdd size a b bit ≡ 0
 is_not_carried size a b bit below = rw (lt-leb (2 ^ size) (a + b + bit) below) refl
 
-pub adds : (size a b bit : ℕ) → a < 2 ^ size → b < 2 ^ size → bit ≤ 1 → with_bit CAdd size a b bit * 2 ^ size + with_bit Add size a b bit ≡ a + b + bit
+pub adds : (size a b bit : ℕ) → a < 2 ^ size → b < 2 ^ size → bit ≤ 1
+    → with_bit CAdd size a b bit * 2 ^ size + with_bit Add size a b bit ≡ a + b + bit
 adds size a b bit below_a below_b few = ⊎_elim
     (λ (low : a + b + bit < 2 ^ size). rw (is_not_carried size a b bit low) (let e = mod_small (a + b + bit) (2 ^ size) low in omega (arith, e)))
     (λ (above : 2 ^ size ≤ a + b + bit). rw (is_carried size a b bit above) (let e = mod_once (a + b + bit) (2 ^ size) above (omega arith) in omega (arith, e)))
@@ -59,7 +60,8 @@ subtracts size a b below_a below_b = record {
   borrowed_again = λ order. rw (lt-leb (2 ^ size) (a + (2 ^ size - 1 - b) + 0) (omega arith)) refl;
 }
 
-pub negates : (size a : ℕ) → a < 2 ^ size → ((value Neg (size ∷ []) (a ∷ []) + a) % 2 ^ size ≡ 0) × (value Not (size ∷ []) (a ∷ []) + a + 1 ≡ 2 ^ size)
+pub negates : (size a : ℕ) → a < 2 ^ size
+    → ((value Neg (size ∷ []) (a ∷ []) + a) % 2 ^ size ≡ 0) × (value Not (size ∷ []) (a ∷ []) + a + 1 ≡ 2 ^ size)
 negates size a below = (negated a below, complement)
   where
     negated : (a : ℕ) → a < 2 ^ size → (value Neg (size ∷ []) (a ∷ []) + a) % 2 ^ size ≡ 0
@@ -96,7 +98,8 @@ next_above n p zero low = omega (arith, ints)
 next_above n p (suc q) low = let e : negsuc (suc q) +ℤ pos 1 ≡ negsuc q = omega (arith, ints) in rw e (omega (arith, ints))
 
 -- a division by a positive number rounds down
-rounds : (z : ℤ) (p : ℕ) → 0 < p → ((int_div_euclid z (pos p) *ℤ pos p) ≤ℤ z) × (z <ℤ ((int_div_euclid z (pos p) +ℤ pos 1) *ℤ pos p))
+rounds : (z : ℤ) (p : ℕ) → 0 < p
+    → ((int_div_euclid z (pos p) *ℤ pos p) ≤ℤ z) × (z <ℤ ((int_div_euclid z (pos p) +ℤ pos 1) *ℤ pos p))
 rounds (pos n) p some = (omega (arith, ints, div-add-mod' n p), omega (arith, ints, div-add-mod' n p, mod_below n p some))
 rounds (negsuc n) p some = (omega (arith, ints, div-add-mod' n p, mod_below n p some), next_above n p (n / p) (omega (arith, div-add-mod' n p)))
 
@@ -114,7 +117,8 @@ rounds_down m n a b positive below =
     }
   where
     -- a quotient by a positive number lies between the number and 0, or is -1
-    nearer_low : (z : ℤ) (p h : ℕ) → 0 < p → 0 < h → (pos 0 -ℤ pos h) ≤ℤ z → (pos 0 -ℤ pos h) ≤ℤ int_div_euclid z (pos p)
+    nearer_low : (z : ℤ) (p h : ℕ) → 0 < p → 0 < h → (pos 0 -ℤ pos h) ≤ℤ z
+        → (pos 0 -ℤ pos h) ≤ℤ int_div_euclid z (pos p)
     nearer_low (pos k) p h some half low = omega (arith, ints)
     nearer_low (negsuc k) p h some half low = let less = div-le_self k p in omega (arith, ints, less)
 
@@ -132,7 +136,8 @@ rounds_down m n a b positive below =
 
 -- ---- choice
 
-pub chooses : (size a b : ℕ) → a < 2 ^ size → b < 2 ^ size → (value If (size ∷ []) (1 ∷ a ∷ b ∷ []) ≡ a) × (value If (size ∷ []) (0 ∷ a ∷ b ∷ []) ≡ b)
+pub chooses : (size a b : ℕ) → a < 2 ^ size → b < 2 ^ size
+    → (value If (size ∷ []) (1 ∷ a ∷ b ∷ []) ≡ a) × (value If (size ∷ []) (0 ∷ a ∷ b ∷ []) ≡ b)
 chooses size a b below_a below_b = (mod_small a (2 ^ size) below_a, mod_small b (2 ^ size) below_b)
 
 -- ---- orders

@@ -27,7 +27,8 @@ module _ (owner : Option ℕ) (frame byte : ℕ) where
       (λ there. rw there refl)
 
   -- an event more that leaves the byte alone
-  extended : (event : RunEvent) (history : List RunEvent) (offset size : ℕ) (value : Value) → leaves_alone owner frame byte event ≡ true
+  extended : (event : RunEvent) (history : List RunEvent) (offset size : ℕ) (value : Value)
+      → leaves_alone owner frame byte event ≡ true
       → NewestStore owner history frame byte offset size value → NewestStore owner (event ∷ history) frame byte offset size value
   extended event history offset size value alone found = record {
     newer = event ∷ found.newer;
@@ -38,7 +39,8 @@ module _ (owner : Option ℕ) (frame byte : ℕ) where
   }
 
   -- the store comes first
-  first_store : (f o s : ℕ) (v : Value) (history : List RunEvent) (offset size : ℕ) (value : Value) → f ≡ frame → is_byte_of o s byte ≡ true
+  first_store : (f o s : ℕ) (v : Value) (history : List RunEvent) (offset size : ℕ) (value : Value) → f ≡ frame
+      → is_byte_of o s byte ≡ true
       → left_by o s v byte ≡ left_by offset size value byte → NewestStore owner (Store f o s v ∷ history) frame byte offset size value
   first_store f o s v history offset size value ff inside same =
       let oo : o ≡ offset = ap (λ (b : Byte). b.offset) same in
@@ -52,7 +54,8 @@ module _ (owner : Option ℕ) (frame byte : ℕ) where
         covers = sym (λ i. is_byte_of (oo i) (ss i) byte) ∙ inside;
       }
 
-  found_newest : (history : List RunEvent) (offset size : ℕ) (value : Value) → origin owner frame history byte ≡ Some (left_by offset size value byte)
+  found_newest : (history : List RunEvent) (offset size : ℕ) (value : Value)
+      → origin owner frame history byte ≡ Some (left_by offset size value byte)
       → NewestStore owner history frame byte offset size value
   found_newest [] offset size value e = cc
   found_newest (Enter entered ∷ history) offset size value e = by_test (is_owner owner entered)
@@ -69,7 +72,8 @@ module _ (owner : Option ℕ) (frame byte : ℕ) where
       let alone : leaves_alone owner frame byte (Store f o s v) ≡ true = rw other refl in
       extended (Store f o s v) history offset size value alone (found_newest history offset size value (sym (passed_over (Store f o s v) history alone) ∙ e)))
 
-  is_newest : (newer older : List RunEvent) (offset size : ℕ) (value : Value) → list_all (leaves_alone owner frame byte) newer ≡ true → is_byte_of offset size byte ≡ true
+  is_newest : (newer older : List RunEvent) (offset size : ℕ) (value : Value)
+      → list_all (leaves_alone owner frame byte) newer ≡ true → is_byte_of offset size byte ≡ true
       → origin owner frame (newer ++ Store frame offset size value ∷ older) byte ≡ Some (left_by offset size value byte)
   is_newest [] older offset size value alone covers = rw (eq-eqb frame frame refl, covers) refl
   is_newest (event ∷ newer) older offset size value alone covers =

@@ -18,13 +18,15 @@ use Rattle.alf_ops.proofs.Fitting.{at_place}
 use Rattle.alf_ops.proofs.WordReadings.{word_below}
 use Rattle.lists.specs.TestLaws.{by_test}
 
-add_fits : (m sum : ℕ) (a b v : Value) → sum < 2 ^ m → FitsValue m a → FitsValue m b → add_rule sum a b ≡ Ok v → FitsValue m v
+add_fits : (m sum : ℕ) (a b v : Value) → sum < 2 ^ m → FitsValue m a → FitsValue m b → add_rule sum a b ≡ Ok v
+    → FitsValue m v
 add_fits m sum (Int s x) (Int t y) v small fits_a fits_b is = cc
 add_fits m sum (Int s x) (Ptr f o) v small fits_a fits_b is = let e : Ptr f sum ≡ v = cc in subst (λ (w : Value). FitsValue m w) e (fits_b.0, subst (λ (n : ℕ). sum < 2 ^ n) fits_b.0 small)
 add_fits m sum (Ptr f o) (Int s x) v small fits_a fits_b is = let e : Ptr f sum ≡ v = cc in subst (λ (w : Value). FitsValue m w) e (fits_a.0, subst (λ (n : ℕ). sum < 2 ^ n) fits_a.0 small)
 add_fits m sum (Ptr f o) (Ptr g p) v small fits_a fits_b is = cc
 
-subtract_fits : (m difference : ℕ) (a b v : Value) → difference < 2 ^ m → FitsValue m a → subtract_rule m difference a b ≡ Ok v → FitsValue m v
+subtract_fits : (m difference : ℕ) (a b v : Value) → difference < 2 ^ m → FitsValue m a
+    → subtract_rule m difference a b ≡ Ok v → FitsValue m v
 subtract_fits m difference (Int s x) b v small fits is = cc
 subtract_fits m difference (Ptr f o) (Int s x) v small fits is =
     let e : Ptr f difference ≡ v = cc in subst (λ (w : Value). FitsValue m w) e (fits.0, subst (λ (n : ℕ). difference < 2 ^ n) fits.0 small)
@@ -32,10 +34,12 @@ subtract_fits m difference (Ptr f o) (Ptr g p) v small fits is = by_test (f == g
     (λ same. let e : Ok (Int m difference) ≡ Ok v = rw same at is in let w : Int m difference ≡ v = cc in subst (λ (x : Value). FitsValue m x) w (refl, small))
     (λ other. let e : Err Pointers ≡ Ok v = rw other at is in cc)
 
-one_bit : (word : ℕ) (v : Value) → word < 2 → Ok (Int 1 word) ≡ (let r : Result Value RunFault = Ok v in r) → FitsValue 1 v
+one_bit : (word : ℕ) (v : Value) → word < 2 → Ok (Int 1 word) ≡ (let r : Result Value RunFault = Ok v in r)
+    → FitsValue 1 v
 one_bit word v small is = let e : Int 1 word ≡ v = cc in subst (λ (x : Value). FitsValue 1 x) e (refl, small)
 
-equality_fits : (unequal test : ℕ) (a b v : Value) → unequal < 2 → test < 2 → equality_rule unequal test a b ≡ Ok v → FitsValue 1 v
+equality_fits : (unequal test : ℕ) (a b v : Value) → unequal < 2 → test < 2 → equality_rule unequal test a b ≡ Ok v
+    → FitsValue 1 v
 equality_fits unequal test (Int s x) b v below small is = cc
 equality_fits unequal test (Ptr f o) (Int s x) v below small is = cc
 equality_fits unequal test (Ptr f o) (Ptr g p) v below small is = by_test (f == g)
@@ -56,10 +60,12 @@ choice_fits m (Int s x) b c v fits_b fits_c is = by_test (x == 1)
     (λ other. let e : Ok c ≡ Ok v = rw other at is in let w : c ≡ v = cc in subst (λ (y : Value). FitsValue m y) w fits_c)
 
 -- the operand at a place where one is wanted
-placed_fits : (size : ℕ) (values : List Value) (i : ℕ) → FitsAt FitsValue (Some size) (slice_get values i) → FitsValue size (operand_at values i)
+placed_fits : (size : ℕ) (values : List Value) (i : ℕ) → FitsAt FitsValue (Some size) (slice_get values i)
+    → FitsValue size (operand_at values i)
 placed_fits size values i fits = go (slice_get values i) refl fits
   where
-    go : (found : Option Value) → slice_get values i ≡ found → FitsAt FitsValue (Some size) found → FitsValue size (operand_at values i)
+    go : (found : Option Value) → slice_get values i ≡ found → FitsAt FitsValue (Some size) found
+        → FitsValue size (operand_at values i)
     go None is fits = absurd fits
     go (Some x) is fits = subst (λ (y : Value). FitsValue size y) (sym (get_or_from_slice_get values i x (Int 0 0) is)) fits
 
@@ -82,7 +88,8 @@ module _ (sizes : List ℕ) (values : List Value) (v : Value) where
   abbrev word_at : Op → ℕ
   word_at op = applied op sizes a b c
 
-  fits_at : (op : Op) (i : ℕ) → EachValueFits (operand_sizes op sizes) values → FitsAt FitsValue (slice_get (operand_sizes op sizes) i) (slice_get values i)
+  fits_at : (op : Op) (i : ℕ) → EachValueFits (operand_sizes op sizes) values
+      → FitsAt FitsValue (slice_get (operand_sizes op sizes) i) (slice_get values i)
   fits_at op i fits = at_place FitsValue (operand_sizes op sizes) values i fits
 
   below : (op : Op) → word_at op < 2 ^ size_of_result op sizes
@@ -114,7 +121,8 @@ module _ (sizes : List ℕ) (values : List Value) (v : Value) where
       let w : Int (size_of_result op sizes) (word_at op) ≡ v = cc in
       subst (λ (x : Value). FitsValue (size_of_result op sizes) x) w (refl, below op))
 
-  pub outcome_fits : (op : Op) → EachValueFits (operand_sizes op sizes) values → outcome op sizes values ≡ Ok v → FitsValue (size_of_result op sizes) v
+  pub outcome_fits : (op : Op) → EachValueFits (operand_sizes op sizes) values → outcome op sizes values ≡ Ok v
+      → FitsValue (size_of_result op sizes) v
   outcome_fits op fits is = by_test (has_pointer values)
       (λ some. rule_fits op fits (rw some at is))
       (λ none. words_fit op (rw none at is))

@@ -21,11 +21,13 @@ bit_high : (high low k place : ℕ) → low < 2 ^ k → bit_of (k + place) (high
 bit_high high low k place below = ap (λ n. n % 2) (sym (shr-shr (high * 2 ^ k + low) k place) ∙ ap (λ n. n / 2 ^ place) (shr_high high k low below))
 
 -- a word by its parts, moved up, less what leaves it
-parts_moved : (high low upper lower : ℕ) → (high * lower + low) * upper + high ≡ high * (upper * lower) + (low * upper + high)
+parts_moved : (high low upper lower : ℕ)
+    → (high * lower + low) * upper + high ≡ high * (upper * lower) + (low * upper + high)
 parts_moved high low upper lower = omega arith
 
 -- the two parts of a word change places
-rotated_word : (size k a : ℕ) → k ≤ size → a < 2 ^ size → (a * 2 ^ k + a / 2 ^ (size - k)) % 2 ^ size ≡ a % 2 ^ (size - k) * 2 ^ k + a / 2 ^ (size - k)
+rotated_word : (size k a : ℕ) → k ≤ size → a < 2 ^ size
+    → (a * 2 ^ k + a / 2 ^ (size - k)) % 2 ^ size ≡ a % 2 ^ (size - k) * 2 ^ k + a / 2 ^ (size - k)
 rotated_word size k a within below =
     let whole : 2 ^ size ≡ 2 ^ k * 2 ^ (size - k) = ap (λ n. 2 ^ n) (let same : size ≡ k + (size - k) = omega arith in same) ∙ pow-add 2 k (size - k) in
     let split : a / 2 ^ (size - k) * 2 ^ (size - k) + a % 2 ^ (size - k) ≡ a = div-add-mod' a (2 ^ (size - k)) in
@@ -63,7 +65,8 @@ module _ (size k a place : ℕ) (within : k ≤ size) (below : a < 2 ^ size) (in
       ∙ ap (bit_of place) (div-add-mod' a (2 ^ (size - k)))
 
   -- a bit that comes round
-  returns : size ≤ place + k → bit_of (place + k - size) (a % 2 ^ (size - k) * 2 ^ k + a / 2 ^ (size - k)) ≡ bit_of place a
+  returns : size ≤ place + k
+      → bit_of (place + k - size) (a % 2 ^ (size - k) * 2 ^ k + a / 2 ^ (size - k)) ≡ bit_of place a
   returns past =
       let round : size - k + (place + k - size) ≡ place = omega arith in
       bit_low (a % 2 ^ (size - k)) (a / 2 ^ (size - k)) k (place + k - size) (omega arith)

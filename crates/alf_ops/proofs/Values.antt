@@ -52,13 +52,15 @@ three_at_most Field m n h = omega arith
 three_at_most Choice m n h = omega arith
 
 -- two lists that fit one another are of one length
-pub same_length : {A B : Type 0} (R : A → B → Type 0) (xs : List A) (ys : List B) → AllZip R xs ys → length ys ≡ length xs
+pub same_length : {A B : Type 0} (R : A → B → Type 0) (xs : List A) (ys : List B) → AllZip R xs ys
+    → length ys ≡ length xs
 same_length R [] [] fits = refl
 same_length R [] (y ∷ ys) fits = absurd fits
 same_length R (x ∷ xs) [] fits = absurd fits
 same_length R (x ∷ xs) (y ∷ ys) fits = ap suc (same_length R xs ys fits.1)
 
-pub few_values : (op : Op) (sizes : List ℕ) (values : List Value) → EachValueFits (operand_sizes op sizes) values → length values ≤ 3
+pub few_values : (op : Op) (sizes : List ℕ) (values : List Value) → EachValueFits (operand_sizes op sizes) values
+    → length values ≤ 3
 few_values op sizes values fits =
     let few = three_at_most (layout_of op) (slice_index sizes 0) (slice_index sizes 1) (slice_index sizes 2) in
     omega (arith, same_length FitsValue (operand_sizes op sizes) values fits, few)

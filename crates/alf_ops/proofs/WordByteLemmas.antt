@@ -23,7 +23,8 @@ bits_below None = omega arith
 bits_below (Some byte) = mod_below _ 256 (omega arith)
 
 -- the word of so many bytes
-pub word_of_below : (from : ℕ → Option Byte) (offset count : ℕ) → word_of (map from (offsets offset count)) < 2 ^ (8 * count)
+pub word_of_below : (from : ℕ → Option Byte) (offset count : ℕ)
+    → word_of (map from (offsets offset count)) < 2 ^ (8 * count)
 word_of_below from offset zero = omega arith
 word_of_below from offset (suc count) =
     let rest : word_of (map from (offsets (suc offset) count)) < 2 ^ (8 * count) = word_of_below from (suc offset) count in

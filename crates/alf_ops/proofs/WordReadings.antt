@@ -44,7 +44,8 @@ signed_greater_is size a b positive below_a below_b = by_test (int_lt (signed si
     (λ e. rw e (read_back size b positive below_b))
 
 -- a number of the signed range is the reading of its word
-pub is_read : (size : ℕ) (z : ℤ) → 1 ≤ size → neg_ℤ (pos (2 ^ (size - 1))) ≤ℤ z → z <ℤ pos (2 ^ (size - 1)) → signed size (word size z) ≡ z
+pub is_read : (size : ℕ) (z : ℤ) → 1 ≤ size → neg_ℤ (pos (2 ^ (size - 1))) ≤ℤ z → z <ℤ pos (2 ^ (size - 1))
+    → signed size (word size z) ≡ z
 is_read size (pos n) positive low high =
     let two = halves size positive in
     let small : n < 2 ^ size = grind (arith, ints, two) in
@@ -79,7 +80,8 @@ unsigned_splits size a b below_a below_b order = record {
     kept : (x y : ℕ) → x ≡ y → y < 2 ^ size → x % 2 ^ size ≡ y
     kept x y same below = ap (λ (n : ℕ). n % 2 ^ size) same ∙ mod_small y (2 ^ size) below
 
-signed_splits : (size a b : ℕ) → 1 ≤ size → a < 2 ^ size → b < 2 ^ size → signed size a ≤ℤ signed size b → Splits SMin SMax size a b
+signed_splits : (size a b : ℕ) → 1 ≤ size → a < 2 ^ size → b < 2 ^ size → signed size a ≤ℤ signed size b
+    → Splits SMin SMax size a b
 signed_splits size a b positive below_a below_b order = record {
   lesser = kept (int_min (signed size a) (signed size b)) a (grind (arith, ints)) below_a;
   lesser_reversed = kept (int_min (signed size b) (signed size a)) a (grind (arith, ints)) below_a;
@@ -90,10 +92,12 @@ signed_splits size a b positive below_a below_b order = record {
     kept : (x : ℤ) (y : ℕ) → x ≡ signed size y → y < 2 ^ size → word size x ≡ y
     kept x y same below = ap (word size) same ∙ read_back size y positive below
 
-pub splits : (size a b : ℕ) → 1 ≤ size → a < 2 ^ size → b < 2 ^ size → (a ≤ b → Splits UMin UMax size a b) × (signed size a ≤ℤ signed size b → Splits SMin SMax size a b)
+pub splits : (size a b : ℕ) → 1 ≤ size → a < 2 ^ size → b < 2 ^ size
+    → (a ≤ b → Splits UMin UMax size a b) × (signed size a ≤ℤ signed size b → Splits SMin SMax size a b)
 splits size a b positive below_a below_b = (unsigned_splits size a b below_a below_b, signed_splits size a b positive below_a below_b)
 
-pub selects_bytes : (size a place : ℕ) → value Select (size ∷ 8 * place ∷ (8 * place + 7) ∷ []) (a ∷ []) ≡ byte_of place a
+pub selects_bytes : (size a place : ℕ)
+    → value Select (size ∷ 8 * place ∷ (8 * place + 7) ∷ []) (a ∷ []) ≡ byte_of place a
 selects_bytes size a place = let eight : 8 * place + 7 - 8 * place + 1 ≡ 8 = omega arith in ap (λ (n : ℕ). a / 2 ^ (8 * place) % 2 ^ n) eight
 
 pub concatenates : (m n a b : ℕ) → a < 2 ^ m → b < 2 ^ n → value Conc (m ∷ n ∷ []) (a ∷ b ∷ []) ≡ a * 2 ^ n + b

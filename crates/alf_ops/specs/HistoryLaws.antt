@@ -30,7 +30,8 @@ use Rattle.alf_ops.specs.Histories.{Byte, origin, is_active, is_owner, is_byte_o
 use Rattle.alf_ops.specs.WholeCells.{IsCell}
 
 -- the cell lies in the frame of this row, which is active
-pub record IsCellOf (row : FrameShape) (frames : List FrameShape) (history : List RunEvent) (frame offset size : ℕ) : Type 0 where
+pub record IsCellOf (row : FrameShape) (frames : List FrameShape) (history : List RunEvent)
+    (frame offset size : ℕ) : Type 0 where
   pub known : slice_get frames frame ≡ Some row
   pub active : is_active row.owner history ≡ true
   pub within : offset * 8 + size ≤ row.bits
@@ -141,11 +142,13 @@ PointerByte = (row : FrameShape) (frames : List FrameShape) (history : List RunE
     → load frames history (Ptr frame offset) size ≡ Err Mixed
 
 -- a load gives a word below 2 to the size, each byte of which is what was left there
-pub record GivesWord (owner : Option ℕ) (frames : List FrameShape) (history : List RunEvent) (frame offset size : ℕ) : Type 0 where
+pub record GivesWord (owner : Option ℕ) (frames : List FrameShape) (history : List RunEvent)
+    (frame offset size : ℕ) : Type 0 where
   pub word : ℕ
   pub gives : load frames history (Ptr frame offset) size ≡ Ok (Int size word)
   pub below : word < 2 ^ size
-  pub bytes : (place : ℕ) → place < size / 8 → byte_of place word ≡ bits_at (origin owner frame history (offset + place))
+  pub bytes : (place : ℕ) → place < size / 8
+      → byte_of place word ≡ bits_at (origin owner frame history (offset + place))
 
 -- and where no byte is a pointer's, it gives the word of the bytes
 abbrev pub WordOfBytes : Type 0
@@ -164,7 +167,8 @@ leaves_alone owner frame byte (Leave left) = true
 leaves_alone owner frame byte (Store other offset size value) = not ((other == frame) && is_byte_of offset size byte)
 
 -- the store covers the byte, and the events after it leave the byte alone
-pub record NewestStore (owner : Option ℕ) (history : List RunEvent) (frame byte offset size : ℕ) (value : Value) : Type 0 where
+pub record NewestStore (owner : Option ℕ) (history : List RunEvent) (frame byte offset size : ℕ)
+    (value : Value) : Type 0 where
   pub newer : List RunEvent
   pub older : List RunEvent
   pub split : history ≡ newer ++ Store frame offset size value ∷ older

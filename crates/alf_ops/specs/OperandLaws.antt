@@ -28,9 +28,11 @@ drop_next (first ∷ sizes) zero size found = cc
 drop_next (first ∷ sizes) (suc i) size found = drop_next sizes i size found
 
 -- where there is no operand i, no operands are left from i on
-pub operands_end : (op : Op) (sizes : List ℕ) (i : ℕ) → IsSome (result_size op sizes) → operand_size op sizes i ≡ None → drop i (operand_sizes op sizes) ≡ []
+pub operands_end : (op : Op) (sizes : List ℕ) (i : ℕ) → IsSome (result_size op sizes) → operand_size op sizes i ≡ None
+    → drop i (operand_sizes op sizes) ≡ []
 operands_end op sizes i typed none = drop_end (operand_sizes op sizes) i (grind (arith, common_steps))
 
 -- else operand i is the first of those that are left
-pub operands_go_on : (op : Op) (sizes : List ℕ) (i size : ℕ) → operand_size op sizes i ≡ Some size → drop i (operand_sizes op sizes) ≡ size ∷ drop (i + 1) (operand_sizes op sizes)
+pub operands_go_on : (op : Op) (sizes : List ℕ) (i size : ℕ) → operand_size op sizes i ≡ Some size
+    → drop i (operand_sizes op sizes) ≡ size ∷ drop (i + 1) (operand_sizes op sizes)
 operands_go_on op sizes i size found = rw add-one (drop_next (operand_sizes op sizes) i size (grind (arith, common_steps)))

@@ -67,7 +67,8 @@ AsOffsets = AtOneFrame Eq × AtOneFrame Neq × AtOneFrame ULt × AtOneFrame ULe 
 
 -- ---- a pointer and a word
 
--- a pointer and a word are added, and a word is taken from a pointer: a pointer to the same frame, at the word of the offset and the word
+-- a pointer and a word are added, and a word is taken from a pointer: a pointer to the same frame, at the word of the
+-- offset and the word
 abbrev pub Moves : Type 0
 Moves = (sizes : List ℕ) (frame offset size word bit carry : ℕ)
     → (outcome Add sizes (Ptr frame offset ∷ Int size word ∷ Int bit carry ∷ []) ≡ Ok (Ptr frame (value Add sizes (offset ∷ word ∷ carry ∷ []))))
@@ -85,8 +86,8 @@ Chosen = (sizes : List ℕ) (size : ℕ) (first second : Value)
 
 -- ---- pointers elsewhere
 
--- where pointers may stand, by which of the three operands are pointers: one of two that are added; the first of two that are
--- subtracted, or both; both of two that are compared; the values of a choice
+-- where pointers may stand, by which of the three operands are pointers: one of two that are added; the first of two
+-- that are subtracted, or both; both of two that are compared; the values of a choice
 abbrev pub takes_pointers : Op → Bool → Bool → Bool → Bool
 takes_pointers Add a b c = ((a && not b) || (not a && b)) && not c
 takes_pointers Sub a b c = a && not c

@@ -7,7 +7,8 @@ use Rattle.lists.specs.TestLaws.{by_test}
 use Rattle.alf_ops.specs.Readings.{Reading, reads_empty, reads_whole, reads_pointers, reads_word}
 
 -- a cell is read in one of these ways
-pub reading : (from : ℕ → Option Byte) (offset size : ℕ) → Reading (map from (bytes_of offset size)) offset size (cell_in from offset size)
+pub reading : (from : ℕ → Option Byte) (offset size : ℕ)
+    → Reading (map from (bytes_of offset size)) offset size (cell_in from offset size)
 reading from offset size =
     let bytes : List (Option Byte) = map from (bytes_of offset size) in
     by_test (list_any is_empty bytes)

@@ -19,7 +19,8 @@ offsets_step at (suc count) some =
     rw (one, next) refl
 
 -- two tables that agree on so many bytes give the same lists
-pub same_bytes : {A : Type 0} (f g : ℕ → A) (offset count : ℕ) → ((byte : ℕ) → offset ≤ byte → byte < offset + count → f byte ≡ g byte)
+pub same_bytes : {A : Type 0} (f g : ℕ → A) (offset count : ℕ)
+    → ((byte : ℕ) → offset ≤ byte → byte < offset + count → f byte ≡ g byte)
     → map f (offsets offset count) ≡ map g (offsets offset count)
 same_bytes f g offset zero agree = refl
 same_bytes f g offset (suc count) agree =
@@ -29,12 +30,14 @@ same_bytes f g offset (suc count) agree =
 
 module _ {A : Type 0} (test : A → Bool) (f : ℕ → A) where
   -- what each byte passes, all pass
-  pub all_pass : (offset count : ℕ) → ((byte : ℕ) → offset ≤ byte → byte < offset + count → test (f byte) ≡ true) → list_all test (map f (offsets offset count)) ≡ true
+  pub all_pass : (offset count : ℕ) → ((byte : ℕ) → offset ≤ byte → byte < offset + count → test (f byte) ≡ true)
+      → list_all test (map f (offsets offset count)) ≡ true
   all_pass offset zero each = refl
   all_pass offset (suc count) each = and_from _ _ (each offset (omega arith) (omega arith)) (all_pass (suc offset) count (λ byte low high. each byte (omega arith) (omega arith)))
 
   -- what all pass, each byte passes
-  pub each_passes : (offset count : ℕ) → list_all test (map f (offsets offset count)) ≡ true → (byte : ℕ) → offset ≤ byte → byte < offset + count → test (f byte) ≡ true
+  pub each_passes : (offset count : ℕ) → list_all test (map f (offsets offset count)) ≡ true → (byte : ℕ)
+      → offset ≤ byte → byte < offset + count → test (f byte) ≡ true
   each_passes offset zero all byte low high = absurd (omega arith)
   each_passes offset (suc count) all byte low high =
       let parts : (test (f offset) ≡ true) × (list_all test (map f (offsets (suc offset) count)) ≡ true) = and_parts _ _ all in
@@ -47,7 +50,8 @@ module _ {A : Type 0} (test : A → Bool) (f : ℕ → A) where
   none_passes offset (suc count) each = or_from _ _ (each offset (omega arith) (omega arith)) (none_passes (suc offset) count (λ byte low high. each byte (omega arith) (omega arith)))
 
   -- where none passes, no byte does
-  pub each_fails : (offset count : ℕ) → list_any test (map f (offsets offset count)) ≡ false → (byte : ℕ) → offset ≤ byte → byte < offset + count → test (f byte) ≡ false
+  pub each_fails : (offset count : ℕ) → list_any test (map f (offsets offset count)) ≡ false → (byte : ℕ)
+      → offset ≤ byte → byte < offset + count → test (f byte) ≡ false
   each_fails offset zero none byte low high = absurd (omega arith)
   each_fails offset (suc count) none byte low high =
       let parts : (test (f offset) ≡ false) × (list_any test (map f (offsets (suc offset) count)) ≡ false) = or_parts _ _ none in
@@ -65,6 +69,7 @@ module _ {A : Type 0} (test : A → Bool) (f : ℕ → A) where
       (found.0, omega (arith, found.1), omega (arith, found.2), found.3))
 
   -- a byte that passes is some
-  pub some_pass : (offset count byte : ℕ) → offset ≤ byte → byte < offset + count → test (f byte) ≡ true → list_any test (map f (offsets offset count)) ≡ true
+  pub some_pass : (offset count byte : ℕ) → offset ≤ byte → byte < offset + count → test (f byte) ≡ true
+      → list_any test (map f (offsets offset count)) ≡ true
   some_pass offset count byte low high passes =
       by_test (list_any test (map f (offsets offset count))) (λ yes. yes) (λ no. absurd (false≢true (sym (each_fails offset count no byte low high) ∙ passes)))

@@ -1,6 +1,6 @@
--- The table of operators.
--- A row has a layout of sizes and operands. Its formula gives the value before it is cut to the size of the result. In a row
--- s, m, n, low and high are the sizes written, and a, b and c the operands, named as the page of operators names them.
+-- The table of operators. A row has a layout of sizes and operands. Its formula gives the value before it is cut to the
+-- size of the result. In a row s, m, n, low and high are the sizes written, and a, b and c the operands, named as the
+-- page of operators names them.
 --   row_of op                    the operator's row: its name, its layout and its formula
 --   operators                    the operators in the order of the table
 --   spelling op                  the operator's name

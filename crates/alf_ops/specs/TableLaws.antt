@@ -20,7 +20,8 @@ pub in_cell : (offset size byte : ℕ) → offset ≤ byte → byte < offset + s
 in_cell offset size byte low high = and_from _ _ (le-leb offset byte low) (lt-ltb byte (offset + size / 8) high)
 
 -- and a byte of the cell lies between its ends
-pub cell_ends : (offset size byte : ℕ) → is_byte_of offset size byte ≡ true → (offset ≤ byte) × (byte < offset + size / 8)
+pub cell_ends : (offset size byte : ℕ) → is_byte_of offset size byte ≡ true
+    → (offset ≤ byte) × (byte < offset + size / 8)
 cell_ends offset size byte is =
     let parts = and_parts _ _ is in
     (leb-true offset byte parts.0, ltb-true byte (offset + size / 8) parts.1)
@@ -41,21 +42,25 @@ whole_cell from offset size value some each =
     all_pass (is_from offset size) from offset (size / 8) (λ byte low high. ap (is_from offset size) (each byte low high) ∙ and_from _ _ (eq-eqb offset offset refl) (eq-eqb size size refl)) in
     rw (full, whole) (first (size / 8) some (each offset (omega arith) (omega arith)))
   where
-    first : (count : ℕ) → 0 < count → from offset ≡ Some (left_by offset size value offset) → first_value (map from (offsets offset count)) ≡ Ok value
+    first : (count : ℕ) → 0 < count → from offset ≡ Some (left_by offset size value offset)
+        → first_value (map from (offsets offset count)) ≡ Ok value
     first zero none is = absurd (omega arith)
     first (suc count) some is = rw is refl
 
 -- a store and then the same cell
-pub put_same : (from : ℕ → Option Byte) (offset size : ℕ) (value : Value) → 0 < size / 8 → cell_in (put offset size value from) offset size ≡ Ok value
+pub put_same : (from : ℕ → Option Byte) (offset size : ℕ) (value : Value) → 0 < size / 8
+    → cell_in (put offset size value from) offset size ≡ Ok value
 put_same from offset size value some = whole_cell (put offset size value from) offset size value some (λ byte low high. rw (in_cell offset size byte low high) refl)
 
 -- a store leaves a byte that it does not cover
-pub put_elsewhere : (from : ℕ → Option Byte) (offset size : ℕ) (value : Value) (byte : ℕ) → is_byte_of offset size byte ≡ false
+pub put_elsewhere : (from : ℕ → Option Byte) (offset size : ℕ) (value : Value) (byte : ℕ)
+    → is_byte_of offset size byte ≡ false
     → put offset size value from byte ≡ from byte
 put_elsewhere from offset size value byte other = rw other refl
 
 -- tables that agree on the bytes of a cell hold the same in it
-pub same_cell : (f g : ℕ → Option Byte) (offset size : ℕ) → ((byte : ℕ) → offset ≤ byte → byte < offset + size / 8 → f byte ≡ g byte)
+pub same_cell : (f g : ℕ → Option Byte) (offset size : ℕ)
+    → ((byte : ℕ) → offset ≤ byte → byte < offset + size / 8 → f byte ≡ g byte)
     → cell_in f offset size ≡ cell_in g offset size
 same_cell f g offset size agree = ap (λ (taken : List (Option Byte)). contents taken offset size) (same_bytes f g offset (size / 8) agree)
 
@@ -91,7 +96,8 @@ one_store owner frame (Store f o s v ∷ history) offset size first second one o
     (λ here. put_one (rw here at from_one) (rw here at from_two) (λ a b. one_store owner frame history offset size first second one other in_one in_two a b o1 s1 o2 s2))
     (λ there. one_store owner frame history offset size first second one other in_one in_two (rw there at from_one) (rw there at from_two) o1 s1 o2 s2)
   where
-    put_one : put o s v (origin owner frame history) first ≡ Some one → put o s v (origin owner frame history) second ≡ Some other
+    put_one : put o s v (origin owner frame history) first ≡ Some one
+        → put o s v (origin owner frame history) second ≡ Some other
         → (origin owner frame history first ≡ Some one → origin owner frame history second ≡ Some other → one.value ≡ other.value)
         → one.value ≡ other.value
     put_one one_is two_is older = by_test (is_byte_of o s first)

@@ -30,7 +30,8 @@ knows owner frame (Store f o s v ∷ history) byte stored sound is = by_test (f 
     (λ here. in_frame (rw here at is) (λ e. knows owner frame history byte stored sound.1 e))
     (λ there. knows owner frame history byte stored sound.1 (rw there at is))
   where
-    in_frame : put o s v (origin owner frame history) byte ≡ Some stored → (origin owner frame history byte ≡ Some stored → KnowsPlace byte stored)
+    in_frame : put o s v (origin owner frame history) byte ≡ Some stored
+        → (origin owner frame history byte ≡ Some stored → KnowsPlace byte stored)
         → KnowsPlace byte stored
     in_frame e older = by_test (is_byte_of o s byte)
         (λ inside.
@@ -40,13 +41,16 @@ knows owner frame (Store f o s v ∷ history) byte stored sound is = by_test (f 
         (λ outside. older (rw outside at e))
 
 -- the bytes of a sound history are a table
-pub origin_is_table : (owner : Option ℕ) (frame : ℕ) (history : List RunEvent) → IsSound history → IsTable (origin owner frame history)
+pub origin_is_table : (owner : Option ℕ) (frame : ℕ) (history : List RunEvent) → IsSound history
+    → IsTable (origin owner frame history)
 origin_is_table owner frame history sound offset size is whole = go (origin owner frame history offset) refl (from_cell offset (omega arith) (omega (arith, is.0)))
   where
-    from_cell : (byte : ℕ) → offset ≤ byte → byte < offset + size / 8 → is_from offset size (origin owner frame history byte) ≡ true
+    from_cell : (byte : ℕ) → offset ≤ byte → byte < offset + size / 8
+        → is_from offset size (origin owner frame history byte) ≡ true
     from_cell byte low high = each_passes (is_from offset size) (origin owner frame history) offset (size / 8) whole byte low high
 
-    go : (first : Option Byte) → origin owner frame history offset ≡ first → is_from offset size first ≡ true → OneStore (origin owner frame history) offset size
+    go : (first : Option Byte) → origin owner frame history offset ≡ first → is_from offset size first ≡ true
+        → OneStore (origin owner frame history) offset size
     go None at h = absurd (false≢true h)
     go (Some first) at h =
         let parts = and_parts _ _ h in
@@ -61,7 +65,8 @@ origin_is_table owner frame history sound offset size is whole = go (origin owne
               also byte inside first at o s (origin owner frame history byte) refl (from_cell byte ends.0 ends.1);
         }
       where
-        also : (byte : ℕ) → is_byte_of offset size byte ≡ true → (first : Byte) → origin owner frame history offset ≡ Some first
+        also : (byte : ℕ) → is_byte_of offset size byte ≡ true → (first : Byte)
+            → origin owner frame history offset ≡ Some first
             → first.offset ≡ offset → first.size ≡ size
             → (stored : Option Byte) → origin owner frame history byte ≡ stored → is_from offset size stored ≡ true → stored ≡ Some (left_by offset size first.value byte)
         also byte inside first at o s None is h = absurd (false≢true h)
@@ -75,7 +80,8 @@ origin_is_table owner frame history sound offset size is whole = go (origin owne
             let place : stored.place ≡ byte - offset = k.place ∙ ap (λ (n : ℕ). byte - n) p in
             ap Some (same_byte stored (left_by offset size first.value byte) p t v place)
           where
-            same_byte : (a b : Byte) → a.offset ≡ b.offset → a.size ≡ b.size → a.value ≡ b.value → a.place ≡ b.place → a ≡ b
+            same_byte : (a b : Byte) → a.offset ≡ b.offset → a.size ≡ b.size → a.value ≡ b.value → a.place ≡ b.place
+                → a ≡ b
             same_byte a b o s v p = λ i. record { offset = o i; size = s i; value = v i; place = p i }
 
 -- a whole word

@@ -22,7 +22,8 @@ is_whole from offset size = list_all (is_from offset size) (map from (bytes_of o
 pub record OneStore (from : ℕ → Option Byte) (offset size : ℕ) : Type 0 where
   pub value : Value
   pub fits : FitsValue size value
-  pub each : (byte : ℕ) → is_byte_of offset size byte ≡ true → from byte ≡ Some (record { offset = offset; size = size; value = value; place = byte - offset })
+  pub each : (byte : ℕ) → is_byte_of offset size byte ≡ true
+      → from byte ≡ Some (record { offset = offset; size = size; value = value; place = byte - offset })
 
 abbrev pub IsTable : (ℕ → Option Byte) → Type 0
 IsTable from = (offset size : ℕ) → IsCell size → is_whole from offset size ≡ true → OneStore from offset size

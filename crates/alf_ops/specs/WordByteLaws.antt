@@ -8,7 +8,8 @@ use Rattle.alf_ops.specs.declared.history.Value.TheVariants.{Int}
 use Rattle.alf_ops.specs.Histories.{Byte, left_by, byte_of, bits_at, offsets, word_of}
 
 -- one more byte of a word
-pub wider : (word count low : ℕ) → 0 < count → word < 2 ^ (8 * (count - 1)) → low < 256 → word * 256 + low < 2 ^ (8 * count)
+pub wider : (word count low : ℕ) → 0 < count → word < 2 ^ (8 * (count - 1)) → low < 256
+    → word * 256 + low < 2 ^ (8 * count)
 wider word count low some small few =
     let e : 8 * count ≡ 8 * (count - 1) + 8 = omega arith in
     let p : 2 ^ (8 * count) ≡ 2 ^ (8 * (count - 1)) * 2 ^ 8 = ap (λ (n : ℕ). 2 ^ n) e ∙ pow-add 2 (8 * (count - 1)) 8 in

@@ -3,11 +3,19 @@
 ghost use Rattle.std.specs.Prelude.{◌≡◌, ℕ, true, false};
 ghost use Rattle.alf_ops.specs.declared.history.Value.TheVariants.{Int, Ptr};
 ghost use Rattle.alf_ops.specs.Values.{size_of, bits_of, is_pointer};
-ghost use Rattle.alf_ops.specs.WordLaws.{ReadsTwosComplement, IsRead, ReadsByHighestBit, BelowItsSize, TruncatesTowardZero, MovesRound, LesserAndGreater, SelectsBytes, ConcatenatesWords};
-ghost use Rattle.alf_ops.specs.OperatorLaws.{ChoosesByBit, AddsWithCarry, SubtractsWithBorrow, Negates, MultipliesInFull, MultipliesReadings, DividesWords, ShiftsUp, RoundsDown, OrdersWords, TellsEqual, KeepsReading, TakesBitsOfBoth};
+ghost use Rattle.alf_ops.specs.WordLaws.{ReadsTwosComplement, IsRead, ReadsByHighestBit, BelowItsSize};
+ghost use Rattle.alf_ops.specs.WordLaws.{TruncatesTowardZero, MovesRound, LesserAndGreater, SelectsBytes};
+ghost use Rattle.alf_ops.specs.WordLaws.{ConcatenatesWords};
+ghost use Rattle.alf_ops.specs.OperatorLaws.{ChoosesByBit, AddsWithCarry, SubtractsWithBorrow, Negates};
+ghost use Rattle.alf_ops.specs.OperatorLaws.{MultipliesInFull, MultipliesReadings, DividesWords, ShiftsUp, RoundsDown};
+ghost use Rattle.alf_ops.specs.OperatorLaws.{OrdersWords, TellsEqual, KeepsReading, TakesBitsOfBoth};
 ghost use Rattle.alf_ops.specs.Names.{HaveOwnNames};
-ghost use Rattle.alf_ops.specs.PointerLaws.{TableDecides, Unequal, Unordered, AsOffsets, Moves, Chosen, KindElsewhere, DividedPointer, OutcomeFits, FirstFaultCounts};
-ghost use Rattle.alf_ops.specs.HistoryLaws.{StoreThenLoad, StoreElsewhere, ReadsBack, EnterEmpties, EnterKeepsOthers, LeaveEnds, LeaveKeepsOthers, KindFirst, DeadNext, PastTheEnd, EmptyByte, PointerByte, WordOfBytes, ComesFromNewest, IsOneStore, StoreKeepsSound, LoadFits, HasOneAnswer};
+ghost use Rattle.alf_ops.specs.PointerLaws.{TableDecides, Unequal, Unordered, AsOffsets, Moves, Chosen, KindElsewhere};
+ghost use Rattle.alf_ops.specs.PointerLaws.{DividedPointer, OutcomeFits, FirstFaultCounts};
+ghost use Rattle.alf_ops.specs.HistoryLaws.{StoreThenLoad, StoreElsewhere, ReadsBack, EnterEmpties, EnterKeepsOthers};
+ghost use Rattle.alf_ops.specs.HistoryLaws.{LeaveEnds, LeaveKeepsOthers, KindFirst, DeadNext, PastTheEnd, EmptyByte};
+ghost use Rattle.alf_ops.specs.HistoryLaws.{PointerByte, WordOfBytes, ComesFromNewest, IsOneStore, StoreKeepsSound};
+ghost use Rattle.alf_ops.specs.HistoryLaws.{LoadFits, HasOneAnswer};
 
 use crate::table::rows;
 

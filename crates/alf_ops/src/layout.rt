@@ -2,7 +2,8 @@
 //! and which size the result has.
 
 ghost use Rattle.std.specs.Prelude.{◌≡◌, ◌<◌, IsTrue, slice_get, slice_index};
-ghost use Rattle.alf_ops.specs.Layouts.{size_count, is_size as size_in_range, is_typed, result_by_layout, operands_by_layout};
+ghost use Rattle.alf_ops.specs.Layouts.{size_count, is_size as size_in_range, is_typed, result_by_layout};
+ghost use Rattle.alf_ops.specs.Layouts.{operands_by_layout};
 
 /// How the sizes, the operands and the result of a row belong together.
 #[derive(Clone, Copy)]

@@ -3,7 +3,8 @@
 ghost use Rattle.std.specs.Prelude.{◌≡◌, ◌*◌, ◌+◌, ◌^◌, ◌<◌, ◌≤◌, map, option_map};
 ghost use Rattle.std.specs.List.{list_any, list_all};
 ghost use Rattle.alf_ops.specs.Values.{bits_of};
-ghost use Rattle.alf_ops.specs.Histories.{is_running, is_active, is_owner, is_byte_of, left_by, origin, offsets, is_empty, is_from, of_pointer, byte_of, word_of, cell_in, load};
+ghost use Rattle.alf_ops.specs.Histories.{is_running, is_active, is_owner, is_byte_of, left_by, origin, offsets};
+ghost use Rattle.alf_ops.specs.Histories.{is_empty, is_from, of_pointer, byte_of, word_of, cell_in, load};
 
 use crate::history::{FrameShape, RunEvent, RunFault, Value};
 use crate::outcomes::{bits, points};
@@ -73,7 +74,8 @@ fn covers(offset: u32, size: u32, byte: u64) -> bool
 
 /// The store that a byte of a frame comes from.
 fn source(history: &[RunEvent], owner: Option<u32>, frame: u32, byte: u64) -> Option<Stored>
-    ensures { origin owner frame history.now byte ≡ option_map (λ from. left_by from.offset from.size from.value byte) result }
+    ensures { origin owner frame history.now byte
+        ≡ option_map (λ from. left_by from.offset from.size from.value byte) result }
 {
     let mut rest = history;
     while let Some((event, others)) = rest.split_first() {
@@ -124,7 +126,8 @@ fn read(
     requires few { count ≤ 8 }
     requires near { at + count < 2 ^ 40 }
     ensures empty { result.empty ≡ list_any is_empty (map (origin owner frame history.now) (offsets at count)) }
-    ensures whole { result.whole ≡ list_all (is_from offset size) (map (origin owner frame history.now) (offsets at count)) }
+    ensures whole { result.whole
+        ≡ list_all (is_from offset size) (map (origin owner frame history.now) (offsets at count)) }
     ensures pointer { result.pointer ≡ list_any of_pointer (map (origin owner frame history.now) (offsets at count)) }
     ensures word { result.word ≡ word_of (map (origin owner frame history.now) (offsets at count)) }
     ensures small { result.word < 2 ^ (8 * count) }

@@ -4,7 +4,8 @@ ghost use Rattle.std.specs.Prelude.{◌≡◌, ◌↔◌, ◌<◌, ◌^◌, fals
 ghost use Rattle.alf_ops.specs.Table.{result_size, operand_sizes, size_of_result};
 ghost use Rattle.alf_ops.specs.Words.{divides};
 ghost use Rattle.alf_ops.specs.Values.{bits_of, is_pointer, EachValueFits};
-ghost use Rattle.alf_ops.specs.Pointers.{operand_at, applied, add_rule, subtract_rule, equality_rule, order_rule, choice_rule, outcome};
+ghost use Rattle.alf_ops.specs.Pointers.{operand_at, applied, add_rule, subtract_rule, equality_rule, order_rule};
+ghost use Rattle.alf_ops.specs.Pointers.{choice_rule, outcome};
 
 use crate::divide::Divide;
 use crate::history::{RunFault, Value};
@@ -48,7 +49,9 @@ fn word_at_bits(op: Op, sizes: &[u32], values: &[Value]) -> Result<u64, Divide>
     requires typed { IsSome (result_size op sizes.now) }
     requires fitting { EachValueFits (operand_sizes op sizes.now) values.now }
     ensures divide { IsErr result ↔ (IsTrue (divides op) × (bits_of (operand_at values.now 1) ≡ 0)) }
-    ensures value { IfOk result (λ word. word ≡ applied op sizes.now (operand_at values.now 0) (operand_at values.now 1) (operand_at values.now 2)) }
+    ensures value { IfOk result
+        (λ word. word
+        ≡ applied op sizes.now (operand_at values.now 0) (operand_at values.now 1) (operand_at values.now 2)) }
 {
     let words = [
         bits(value_at(values, 0)),
@@ -149,7 +152,8 @@ fn undivided(op: Op, sizes: &[u32], values: &[Value]) -> u64
     requires typed { IsSome (result_size op sizes.now) }
     requires fitting { EachValueFits (operand_sizes op sizes.now) values.now }
     requires undivided { divides op ≡ false }
-    ensures { result ≡ applied op sizes.now (operand_at values.now 0) (operand_at values.now 1) (operand_at values.now 2) }
+    ensures { result
+        ≡ applied op sizes.now (operand_at values.now 0) (operand_at values.now 1) (operand_at values.now 2) }
 {
     match word_at_bits(op, sizes, values) {
         Ok(word) => word,

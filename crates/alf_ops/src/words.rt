@@ -1,6 +1,8 @@
 //! Arithmetic on words of a size.
 
-ghost use Rattle.std.specs.Prelude.{◌≡◌, ◌+◌, ◌-◌, ◌*◌, ◌/◌, ◌%◌, ◌^◌, ◌<◌, ◌≤◌, pos, neg_ℤ, nat_le, ◌*ℤ◌, ◌-ℤ◌, int_div, int_lt, int_le, if◌then◌else◌, bit_and, bit_or, bit_xor, slice_index, ◌==◌, ◌↔◌, IsErr, IfOk};
+ghost use Rattle.std.specs.Prelude.{◌≡◌, ◌+◌, ◌-◌, ◌*◌, ◌/◌, ◌%◌, ◌^◌, ◌<◌, ◌≤◌, pos, neg_ℤ, nat_le, ◌*ℤ◌, ◌-ℤ◌};
+ghost use Rattle.std.specs.Prelude.{int_div, int_lt, int_le, if◌then◌else◌, bit_and, bit_or, bit_xor, slice_index};
+ghost use Rattle.std.specs.Prelude.{◌==◌, ◌↔◌, IsErr, IfOk};
 ghost use Rattle.std.specs.Prelude.{min, max};
 ghost use Rattle.std.specs.Int.{int_div_euclid, int_min, int_max};
 ghost use Rattle.alf_ops.specs.TwosComplement.{word, signed, is_negative, distance, with_sign as signed_by};

@@ -1,4 +1,5 @@
--- Programs, without where they lie in memory. An expression is of names or of numbers, by what stands for a frame in it.
+-- Programs, without where they lie in memory. An expression is of names or of numbers, by what stands for a frame in
+-- it.
 --   Expression F, Expressions F            an expression in which an F stands for a frame, and expressions in a row
 --   NamedExpression, NamedExpressions      the same with the names of frames
 --   NumberedExpression, NumberedExpressions   the same with the numbers of frames

@@ -452,7 +452,8 @@ nested inner = do
   w ← some_word
   expr_tail inner w
 
--- EXPR = NUM | ADDR | { load SIZE EXPR } | { OP SIZE.. EXPR.. }, in which at most so many expressions stand in one another
+-- EXPR = NUM | ADDR | { load SIZE EXPR } | { OP SIZE.. EXPR.. }, in which at most so many expressions stand in one
+-- another
 unfoldable pub expr : ℕ → Rule true NamedExpression
 expr zero = one fits_too_deep
 expr (suc depth) = nested (expr depth)

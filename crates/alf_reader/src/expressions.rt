@@ -7,7 +7,9 @@ ghost use Rattle.std.specs.Option.{option_map};
 ghost use Rattle.alf_ops.specs.Layouts.{size_count};
 ghost use Rattle.alf_ops.specs.Table.{layout_of};
 ghost use Rattle.alf_ops.specs.Names.{TellsOperator};
-ghost use Rattle.alf_reader.specs.Grammar.{one, opens, fits_too_deep, operator, operator_named, unsigned_term, signed_term, address_term, load, further, sizes, apply, expr_tail, nested, expr, whole_expr, least_further, most_further};
+ghost use Rattle.alf_reader.specs.Grammar.{one, opens, fits_too_deep, operator, operator_named, unsigned_term};
+ghost use Rattle.alf_reader.specs.Grammar.{signed_term, address_term, load, further, sizes, apply, expr_tail, nested};
+ghost use Rattle.alf_reader.specs.Grammar.{expr, whole_expr, least_further, most_further};
 ghost use Rattle.alf_tokens.specs.Ahead.{lexeme};
 ghost use Rattle.alf_reader.specs.Reading.{Reads};
 
@@ -148,7 +150,8 @@ impl<'a> Reader<'a> {
     #[cycle(expr)]
     #[tactic(auto, unfolding(crate::specs::Grammar::operator, crate::specs::Grammar::unknown))]
     fn operator(&mut self, word: Token<'a>, depth: u32) -> Result<Expr, Departure<'a>>
-        ensures { Reads (operator (expr depth) (lexeme word.entry) (operator_named word.entry.text.now)) expression_of result self.old self.new }
+        ensures { Reads (operator (expr depth) (lexeme word.entry) (operator_named word.entry.text.now)) expression_of
+            result self.old self.new }
     {
         match operator_row(word.text) {
             Some(row) => self.apply(row, depth),

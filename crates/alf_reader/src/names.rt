@@ -1,7 +1,8 @@
 //! Names: references to frames and labels, labels, and addresses.
 
 ghost use Rattle.grammar.specs.Rule.{many, maybe};
-ghost use Rattle.alf_reader.specs.Grammar.{opens, reference, references, offset, zero_offset, label_tail, label, address_tail, address, ref_place, at_most};
+ghost use Rattle.alf_reader.specs.Grammar.{opens, reference, references, offset, zero_offset, label_tail, label};
+ghost use Rattle.alf_reader.specs.Grammar.{address_tail, address, ref_place, at_most};
 ghost use Rattle.alf_reader.specs.Reading.{Reads};
 
 use crate::fault::Departure;

@@ -1,7 +1,8 @@
 //! What stands in lists. Their loop is `grammar::many`.
 
 ghost use Rattle.std.specs.Prelude.{◌≡◌, ℕ, List, None};
-ghost use Rattle.alf_program.specs.Tree.{NamedExpression, Allocation, InitialValue, expression_of, allocation_of, initial_of};
+ghost use Rattle.alf_program.specs.Tree.{NamedExpression, Allocation, InitialValue, expression_of, allocation_of};
+ghost use Rattle.alf_program.specs.Tree.{initial_of};
 ghost use Rattle.alf_reader.specs.Grammar.{opens, alloc, init, whole_expr, reference};
 ghost use Rattle.alf_reader.specs.Reading.{alf, fault_of};
 

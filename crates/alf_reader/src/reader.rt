@@ -7,7 +7,8 @@ ghost use Rattle.grammar.specs.Form.{first, after};
 ghost use Rattle.alf_tokens.specs.Tokens.{tokens_of};
 ghost use Rattle.alf_tokens.specs.Ahead.{lexeme};
 ghost use Rattle.alf_reader.specs.declared.fault.FaultAt.TheVariants.{Syntax};
-ghost use Rattle.alf_reader.specs.Grammar.{opens, opens_word, opening, closing, end, some_word, word, begin, between, fixed, size, at_most, name, number_within, number_between};
+ghost use Rattle.alf_reader.specs.Grammar.{opens, opens_word, opening, closing, end, some_word, word, begin, between};
+ghost use Rattle.alf_reader.specs.Grammar.{fixed, size, at_most, name, number_within, number_between};
 ghost use Rattle.alf_reader.specs.Reading.{position, Reads};
 
 use crate::fault::{Departure, misfit, outside};
@@ -59,7 +60,11 @@ fn number_between(text: &[u8], least: u128, most: u128, step: u128) -> Option<u1
 impl<'a> Reader<'a> {
     /// Before the whole of a text.
     pub fn new(alloc: Global, text: &'a [u8], counts: Counts) -> Self
-        ensures { position result ≡ record { ahead = tokens_of text.now; room = record { functions = counts.functions; frames = counts.frames; bytes = counts.bytes } } }
+        ensures { position result
+            ≡ record {
+              ahead = tokens_of text.now;
+              room = record { functions = counts.functions; frames = counts.frames; bytes = counts.bytes };
+            } }
     {
         Reader {
             alloc,

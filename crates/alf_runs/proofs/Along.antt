@@ -56,12 +56,14 @@ back_along program path (Some (Switch switched targets others)) value history = 
 back_along program path (Some (Call f args result next)) value history = result_along program path f args result result next value history
 back_along program path (Some (Return returned)) value history = tt
 
-leave_along : (program : NumberedProgram) (path : List ℕ) (value : Option Value) (history : List RunEvent) → LeadsTo (ReturnLeads program path) (leave program path value history)
+leave_along : (program : NumberedProgram) (path : List ℕ) (value : Option Value) (history : List RunEvent)
+    → LeadsTo (ReturnLeads program path) (leave program path value history)
 leave_along program [] value history = refl
 leave_along program (b ∷ path) value history =
     back_along program path (ending_at program (function_at program path) b) value (Leave (function_at program (b ∷ path)) ∷ history)
 
-return_along : (program : NumberedProgram) (path : List ℕ) (history : List RunEvent) (r : Result Value RunFault) → LeadsTo (ReturnLeads program path) (return_step program path history r)
+return_along : (program : NumberedProgram) (path : List ℕ) (history : List RunEvent) (r : Result Value RunFault)
+    → LeadsTo (ReturnLeads program path) (return_step program path history r)
 return_along program path history (Ok value) = leave_along program path (Some value) history
 return_along program path history (Err fault) = tt
 
@@ -89,10 +91,12 @@ block_along : (program : NumberedProgram) (path : List ℕ) (b : ℕ) (block : O
 block_along program path b None history = tt
 block_along program path b (Some block) history = then_along program path b block.ending (after_statements (frames_of program) block.statements (Ok history))
 
-place_along : (program : NumberedProgram) (path : List ℕ) (place : Option ℕ) (history : List RunEvent) → LeadsTo (PlaceLeads program path place) (node_step program path place history)
+place_along : (program : NumberedProgram) (path : List ℕ) (place : Option ℕ) (history : List RunEvent)
+    → LeadsTo (PlaceLeads program path place) (node_step program path place history)
 place_along program path None history = refl
 place_along program path (Some b) history = block_along program path b (slice_get (blocks_at program (function_at program path)) b) history
 
 -- a step leads along an edge
-pub step_along : (program : NumberedProgram) (node : Node) (history : List RunEvent) → LeadsTo (Leads program node) (step program (At node history))
+pub step_along : (program : NumberedProgram) (node : Node) (history : List RunEvent)
+    → LeadsTo (Leads program node) (step program (At node history))
 step_along program node history = place_along program node.path node.block history

@@ -55,7 +55,8 @@ own_size size (Ptr frame offset) fits = (refl, fits.1)
 -- ---- stores
 
 -- a store runs the same functions
-stored_runs : (history new : List RunEvent) (value : Value) (r : Result histories.Address RunFault) → stored history value r ≡ Ok new → (f : ℕ) → is_running new f ≡ is_running history f
+stored_runs : (history new : List RunEvent) (value : Value) (r : Result histories.Address RunFault)
+    → stored history value r ≡ Ok new → (f : ℕ) → is_running new f ≡ is_running history f
 stored_runs history new value (Ok address) is f =
     let e : events.Store address.frame address.offset (size_of value) value ∷ history ≡ new = cc in sym (ap (λ (h : List RunEvent). is_running h f) e)
 stored_runs history new value (Err fault) is f = cc
@@ -68,7 +69,8 @@ stored_grown promised frames history new place value sound fits is = record {
 }
 
 -- a store of an expression's value grows the history
-after_store_grown : Promised → (frames : List FrameShape) (history new : List RunEvent) (place value : Result Value RunFault)
+after_store_grown : Promised
+    → (frames : List FrameShape) (history new : List RunEvent) (place value : Result Value RunFault)
     → IsSound history → ((v : Value) → value ≡ Ok v → FitsValue (size_of v) v) → after_store frames history place value ≡ Ok new → Grown history new
 after_store_grown promised frames history new (Ok at) (Ok v) sound fits is = stored_grown promised frames history new at v sound (fits v refl) is
 after_store_grown promised frames history new (Err fault) value sound fits is = cc
@@ -76,7 +78,8 @@ after_store_grown promised frames history new (Ok at) (Err fault) sound fits is 
 
 -- ---- statements
 
-statement_grown : Promised → (rows : List FrameRow) (k : ℕ) (frames : List FrameShape) (history new : List RunEvent) (s : NumberedStatement)
+statement_grown : Promised
+    → (rows : List FrameRow) (k : ℕ) (frames : List FrameShape) (history new : List RunEvent) (s : NumberedStatement)
     → IsSound history → KeepsStatement rows k s → after_statement frames s history ≡ Ok new → Grown history new
 statement_grown promised rows k frames history new Null sound keeps is =
     let e : history ≡ new = cc in record { runs = λ f. sym (ap (λ (h : List RunEvent). is_running h f) e); sound = subst IsSound e sound }
@@ -91,7 +94,8 @@ statements_grown promised rows k frames history new [] sound keeps is =
 statements_grown promised rows k frames history new (s ∷ ss) sound keeps is =
     go (after_statement frames s history) refl is (λ middle grown. statements_grown promised rows k frames middle new ss grown.sound (All-tail (KeepsStatement rows k) s ss keeps))
   where
-    go : (r : Result (List RunEvent) RunFault) → after_statement frames s history ≡ r → after_statements frames ss r ≡ Ok new
+    go : (r : Result (List RunEvent) RunFault) → after_statement frames s history ≡ r
+        → after_statements frames ss r ≡ Ok new
         → ((middle : List RunEvent) → Grown history middle → after_statements frames ss (Ok middle) ≡ Ok new → Grown middle new) → Grown history new
     go (Ok middle) first rest further =
         let grown = statement_grown promised rows k frames history middle s sound (All-head (KeepsStatement rows k) s ss keeps) first in
@@ -121,12 +125,14 @@ arguments_fit promised rows k frames history (arg ∷ args) (e ∷ es) values so
 
 -- ---- functions entered
 
-arguments_run : (args : List ℕ) (values : List Value) (history : List RunEvent) (f : ℕ) → is_running (with_arguments args values history) f ≡ is_running history f
+arguments_run : (args : List ℕ) (values : List Value) (history : List RunEvent) (f : ℕ)
+    → is_running (with_arguments args values history) f ≡ is_running history f
 arguments_run [] values history f = refl
 arguments_run (arg ∷ args) [] history f = refl
 arguments_run (arg ∷ args) (value ∷ values) history f = arguments_run args values (events.Store arg 0 (size_of value) value ∷ history) f
 
-arguments_sound : (args : List ℕ) (values : List Value) (history : List RunEvent) → AllFit values → IsSound history → IsSound (with_arguments args values history)
+arguments_sound : (args : List ℕ) (values : List Value) (history : List RunEvent) → AllFit values → IsSound history
+    → IsSound (with_arguments args values history)
 arguments_sound [] values history fit sound = sound
 arguments_sound (arg ∷ args) [] history fit sound = sound
 arguments_sound (arg ∷ args) (value ∷ values) history fit sound = arguments_sound args values (events.Store arg 0 (size_of value) value ∷ history) fit.1 (fit.0, sound)
@@ -135,24 +141,28 @@ arguments_sound (arg ∷ args) (value ∷ values) history fit sound = arguments_
 abbrev pub FitsWord : InitRow → Type 0
 FitsWord init = init.num.bits < 2 ^ init.num.size
 
-inits_run : (inits : List InitRow) (history : List RunEvent) (f : ℕ) → is_running (with_inits inits history) f ≡ is_running history f
+inits_run : (inits : List InitRow) (history : List RunEvent) (f : ℕ)
+    → is_running (with_inits inits history) f ≡ is_running history f
 inits_run [] history f = refl
 inits_run (init ∷ inits) history f = inits_run inits (events.Store init.frame init.offset init.num.size (Int init.num.size init.num.bits) ∷ history) f
 
-inits_sound : (inits : List InitRow) (history : List RunEvent) → All FitsWord inits → IsSound history → IsSound (with_inits inits history)
+inits_sound : (inits : List InitRow) (history : List RunEvent) → All FitsWord inits → IsSound history
+    → IsSound (with_inits inits history)
 inits_sound [] history fit sound = sound
 inits_sound (init ∷ inits) history fit sound =
     inits_sound inits (events.Store init.frame init.offset init.num.size (Int init.num.size init.num.bits) ∷ history)
     (All-tail FitsWord init inits fit) ((refl, All-head FitsWord init inits fit), sound)
 
 -- words that the checks keep fit
-words_kept : (rows : List FrameRow) (owner : Option ℕ) (inits : List InitRow) → All (InitFits rows owner) inits → All FitsWord inits
+words_kept : (rows : List FrameRow) (owner : Option ℕ) (inits : List InitRow) → All (InitFits rows owner) inits
+    → All FitsWord inits
 words_kept rows owner inits keep = λ k d low. (keep k d low).word.fits
 
 inits_kept : (program : NumberedProgram) → IsKept program → (f : ℕ) → All FitsWord (inits_at program f)
 inits_kept program kept f = go (slice_get program.funcs f) refl
   where
-    go : (o : Option NumberedFunction) → slice_get program.funcs f ≡ o → All FitsWord (option_map_or (λ function. function.inits) o [])
+    go : (o : Option NumberedFunction) → slice_get program.funcs f ≡ o
+        → All FitsWord (option_map_or (λ function. function.inits) o [])
     go None found = All-nil FitsWord
     go (Some function) found = words_kept program.frames (Some f) function.inits (kept.functions f function found).inits
 
@@ -163,7 +173,8 @@ entered_runs program f values history g =
     inits_run (inits_at program f) (with_arguments (args_at program f) values (Enter f ∷ history)) g ∙ arguments_run (args_at program f) values (Enter f ∷ history) g
 
 -- and the values that it starts with fit
-pub entered_sound : (program : NumberedProgram) → IsKept program → (f : ℕ) (values : List Value) (history : List RunEvent)
+pub entered_sound : (program : NumberedProgram) → IsKept program
+    → (f : ℕ) (values : List Value) (history : List RunEvent)
     → AllFit values → IsSound history → IsSound (entered program f values history)
 entered_sound program kept f values history fit sound =
     inits_sound (inits_at program f) (with_arguments (args_at program f) values (Enter f ∷ history)) (inits_kept program kept f)
@@ -178,12 +189,14 @@ globals_run program f = inits_run program.inits [] f
 pub globals_sound : (program : NumberedProgram) → IsKept program → IsSound (with_inits program.inits [])
 globals_sound program kept = inits_sound program.inits [] (words_kept program.frames None program.inits kept.inits) tt
 
-pub inputs_run : (rows : List InputRow) (words : List ℕ) (history : List RunEvent) (f : ℕ) → is_running (with_inputs rows words history) f ≡ is_running history f
+pub inputs_run : (rows : List InputRow) (words : List ℕ) (history : List RunEvent) (f : ℕ)
+    → is_running (with_inputs rows words history) f ≡ is_running history f
 inputs_run [] words history f = refl
 inputs_run (row ∷ rows) [] history f = refl
 inputs_run (row ∷ rows) (word ∷ words) history f = inputs_run rows words (events.Store row.frame row.offset row.size (Int row.size word) ∷ history) f
 
-pub inputs_sound : (rows : List InputRow) (words : List ℕ) (history : List RunEvent) → AreWords rows words → IsSound history → IsSound (with_inputs rows words history)
+pub inputs_sound : (rows : List InputRow) (words : List ℕ) (history : List RunEvent) → AreWords rows words
+    → IsSound history → IsSound (with_inputs rows words history)
 inputs_sound [] words history fit sound = sound
 inputs_sound (row ∷ rows) [] history fit sound = sound
 inputs_sound (row ∷ rows) (word ∷ words) history fit sound =

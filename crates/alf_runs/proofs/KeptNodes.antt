@@ -14,7 +14,8 @@ abbrev AtKept : NumberedProgram → Moment → Type 0
 AtKept program (At node history) = IsKeptNode program node
 AtKept program (Over outcome) = Unit {0}
 
-next_kept : (program : NumberedProgram) (node : Node) (moment : Moment) → IsKeptNode program node → LeadsTo (Leads program node) moment → AtKept program moment
+next_kept : (program : NumberedProgram) (node : Node) (moment : Moment) → IsKeptNode program node
+    → LeadsTo (Leads program node) moment → AtKept program moment
 next_kept program node (At next history) kept leads = goes_on node next kept leads
 next_kept program node (Over outcome) kept leads = tt
 
@@ -22,11 +23,13 @@ step_kept : (program : NumberedProgram) (moment : Moment) → AtKept program mom
 step_kept program (At node history) kept = next_kept program node (step program (At node history)) kept (step_along program node history)
 step_kept program (Over outcome) kept = tt
 
-after_kept : (program : NumberedProgram) (t : ℕ) (moment : Moment) → AtKept program moment → AtKept program (after program t moment)
+after_kept : (program : NumberedProgram) (t : ℕ) (moment : Moment) → AtKept program moment
+    → AtKept program (after program t moment)
 after_kept program zero moment kept = kept
 after_kept program (suc t) moment kept = after_kept program t (step program moment) (step_kept program moment kept)
 
-pub kept_nodes : (program : NumberedProgram) (t : ℕ) (start history : List RunEvent) (node : Node) → after program t (At first_node start) ≡ At node history → IsKeptNode program node
+pub kept_nodes : (program : NumberedProgram) (t : ℕ) (start history : List RunEvent) (node : Node)
+    → after program t (At first_node start) ≡ At node history → IsKeptNode program node
 kept_nodes program t start history node at = subst (AtKept program) at (after_kept program t (At first_node start) first)
 
 pub leads_on : (program : NumberedProgram) (t : ℕ) (moment : Moment) (node next : Node) (before later : List RunEvent)

@@ -43,7 +43,8 @@ same_test true b on back = sym (on refl)
 same_test false true on back = back refl
 same_test false false on back = refl
 
-active_along : (program : NumberedProgram) (path : List ℕ) (history : List RunEvent) → ((f : ℕ) → is_running history f ≡ is_among f (functions_on program path)) → ActiveAlong program path history
+active_along : (program : NumberedProgram) (path : List ℕ) (history : List RunEvent)
+    → ((f : ℕ) → is_running history f ≡ is_among f (functions_on program path)) → ActiveAlong program path history
 active_along program path history runs None = (λ _. tt, λ _. refl)
 active_along program path history runs (Some f) = (
   λ running. (among_member (functions_on program path) f).0 (sym (runs f) ∙ running),
@@ -51,10 +52,12 @@ active_along program path history runs (Some f) = (
 )
 
 -- the law of places, from what the test tells, and back
-pub to_place : (program : NumberedProgram) (node : Node) (history : List RunEvent) → Stands program node.path node.block history → IsPlace program node history
+pub to_place : (program : NumberedProgram) (node : Node) (history : List RunEvent)
+    → Stands program node.path node.block history → IsPlace program node history
 to_place program node history stands = record { calls = stands.calls; there = stands.there; active = active_along program node.path history stands.runs; sound = stands.sound }
 
-from_place : (program : NumberedProgram) (node : Node) (history : List RunEvent) → IsPlace program node history → Stands program node.path node.block history
+from_place : (program : NumberedProgram) (node : Node) (history : List RunEvent) → IsPlace program node history
+    → Stands program node.path node.block history
 from_place program node history place = record {
   calls = place.calls;
   there = place.there;
@@ -70,21 +73,25 @@ placed program (Over (Ended outputs)) safe = tt
 placed program (Over (Faulted fault)) safe = tt
 placed program (Over Lost) safe = safe
 
-pub step_keeps : Promised → (program : NumberedProgram) (node : Node) (history : List RunEvent) → IsKept program → IsPlace program node history → IsPlaced program (step program (At node history))
+pub step_keeps : Promised → (program : NumberedProgram) (node : Node) (history : List RunEvent) → IsKept program
+    → IsPlace program node history → IsPlaced program (step program (At node history))
 step_keeps promised program node history kept place =
     placed program (step program (At node history)) (step_safe promised program kept node.path node.block history (from_place program node history place))
 
 -- ---- runs
 
-safe_step : Promised → (program : NumberedProgram) → IsKept program → (moment : Moment) → IsSafe program moment → IsSafe program (step program moment)
+safe_step : Promised → (program : NumberedProgram) → IsKept program → (moment : Moment) → IsSafe program moment
+    → IsSafe program (step program moment)
 safe_step promised program kept (At node history) safe = step_safe promised program kept node.path node.block history safe
 safe_step promised program kept (Over outcome) safe = safe
 
-safe_after : Promised → (program : NumberedProgram) → IsKept program → (t : ℕ) (moment : Moment) → IsSafe program moment → IsSafe program (after program t moment)
+safe_after : Promised → (program : NumberedProgram) → IsKept program → (t : ℕ) (moment : Moment) → IsSafe program moment
+    → IsSafe program (after program t moment)
 safe_after promised program kept zero moment safe = safe
 safe_after promised program kept (suc t) moment safe = safe_after promised program kept t (step program moment) (safe_step promised program kept moment safe)
 
-pub start_place : (program : NumberedProgram) (rows : List InputRow) (words : List ℕ) → IsKept program → AreWords rows words → IsPlace program first_node (start_history program rows words)
+pub start_place : (program : NumberedProgram) (rows : List InputRow) (words : List ℕ) → IsKept program
+    → AreWords rows words → IsPlace program first_node (start_history program rows words)
 start_place program rows words kept fit = to_place program first_node (start_history program rows words) (start_stands program kept rows words fit)
 
 pub each_place : Promised → (program : NumberedProgram) (rows : List InputRow) (words : List ℕ) (t : ℕ) (node : Node) (history : List RunEvent)
@@ -103,7 +110,8 @@ word_below : (size : ℕ) (z : ℤ) → word size z < 2 ^ size
 word_below size (pos n) = mod-lt n (pow_pos size)
 word_below size (negsuc n) = omega (arith, pow_pos size)
 
-pub inputs_are_words : (rows : List InputRow) (numbers : List ℤ) → AreWithin rows numbers → AreWords rows (words_of rows numbers)
+pub inputs_are_words : (rows : List InputRow) (numbers : List ℤ) → AreWithin rows numbers
+    → AreWords rows (words_of rows numbers)
 inputs_are_words [] [] within = tt
 inputs_are_words [] (number ∷ numbers) within = absurd within
 inputs_are_words (row ∷ rows) [] within = absurd within

@@ -9,7 +9,8 @@ use Rattle.alf_runs.specs.Runs.{after, trace, Ends, IsLonger}
 use Rattle.alf_runs.specs.RunLaws.{GoesOnFrom, IsSameEnd, EndsWithin}
 
 -- t + u steps are t steps and then u
-pub after_more : (program : NumberedProgram) (t u : ℕ) (moment : Moment) → after program (t + u) moment ≡ after program u (after program t moment)
+pub after_more : (program : NumberedProgram) (t u : ℕ) (moment : Moment)
+    → after program (t + u) moment ≡ after program u (after program t moment)
 after_more program zero u moment = ap (λ n. after program n moment) (zero-add u)
 after_more program (suc t) u moment = ap (λ n. after program n moment) (suc-add t u) ∙ after_more program t u (step program moment)
 
@@ -24,7 +25,8 @@ over_passes program zero outcome = refl
 over_passes program (suc u) outcome = refl
 
 -- the nodes of t + u steps are those of t steps and then of u
-trace_more : (program : NumberedProgram) (t u : ℕ) (moment : Moment) → trace program (t + u) moment ≡ trace program t moment ++ trace program u (after program t moment)
+trace_more : (program : NumberedProgram) (t u : ℕ) (moment : Moment)
+    → trace program (t + u) moment ≡ trace program t moment ++ trace program u (after program t moment)
 trace_more program zero u moment = ap (λ n. trace program n moment) (zero-add u)
 trace_more program (suc t) u (At node history) =
     ap (λ n. trace program n (At node history)) (suc-add t u) ∙ ap (λ (nodes : List Node). node ∷ nodes) (trace_more program t u (step program (At node history)))
@@ -35,7 +37,8 @@ pub goes_on_from : (program : NumberedProgram) (t u : ℕ) (moment : Moment) →
 goes_on_from program t u moment = record { stands = after_more program t u moment; passes = trace_more program t u moment }
 
 -- what is over stays
-pub stays_over : (program : NumberedProgram) (t u : ℕ) (moment : Moment) (outcome : Outcome) → after program t moment ≡ Over outcome → after program (t + u) moment ≡ Over outcome
+pub stays_over : (program : NumberedProgram) (t u : ℕ) (moment : Moment) (outcome : Outcome)
+    → after program t moment ≡ Over outcome → after program (t + u) moment ≡ Over outcome
 stays_over program t u moment outcome over = after_more program t u moment ∙ ap (after program u) over ∙ over_stays program u outcome
 
 -- ---- one end
@@ -72,7 +75,8 @@ not_longer : (program : NumberedProgram) (n : ℕ) (outcome : Outcome) → IsLon
 not_longer program n outcome longer = let over = over_stays program n outcome in let stands = longer.stands in cc
 
 -- a node that comes after n steps is among the nodes of the run
-passes_longer : (program : NumberedProgram) (n t : ℕ) (moment : Moment) (outcome : Outcome) → IsLonger program moment n → after program t moment ≡ Over outcome → n < length (trace program t moment)
+passes_longer : (program : NumberedProgram) (n t : ℕ) (moment : Moment) (outcome : Outcome) → IsLonger program moment n
+    → after program t moment ≡ Over outcome → n < length (trace program t moment)
 passes_longer program n zero moment outcome longer over = absurd (not_longer program n outcome (subst (λ m. IsLonger program m n) over longer))
 passes_longer program zero (suc t) (At node history) outcome longer over = omega arith
 passes_longer program (suc n) (suc t) (At node history) outcome longer over =
@@ -80,7 +84,8 @@ passes_longer program (suc n) (suc t) (At node history) outcome longer over =
 passes_longer program n (suc t) (Over other) outcome longer over = absurd (not_longer program n other longer)
 
 -- a run with more than n nodes stands at one after n steps
-longer_within : (program : NumberedProgram) (n t : ℕ) (moment : Moment) → n < length (trace program t moment) → IsLonger program moment n
+longer_within : (program : NumberedProgram) (n t : ℕ) (moment : Moment) → n < length (trace program t moment)
+    → IsLonger program moment n
 longer_within program n zero moment low = absurd (omega arith)
 longer_within program zero (suc t) (At node history) low = record { node = node; history = history; stands = refl }
 longer_within program (suc n) (suc t) (At node history) low =
@@ -95,7 +100,8 @@ ends_at_length program start nodes outcome n end = (
 )
 
 -- a run ends with at most n nodes, or has more
-pub ends_or_goes_on : (program : NumberedProgram) (n : ℕ) (start : Moment) → EndsWithin program start n ⊎ IsLonger program start n
+pub ends_or_goes_on : (program : NumberedProgram) (n : ℕ) (start : Moment)
+    → EndsWithin program start n ⊎ IsLonger program start n
 ends_or_goes_on program n (Over outcome) = inl (record { nodes = []; outcome = outcome; ends = record { steps = 0; over = refl; passes = refl }; few = omega arith })
 ends_or_goes_on program zero (At node history) = inr (record { node = node; history = history; stands = refl })
 ends_or_goes_on program (suc n) (At node history) = ⊎_elim

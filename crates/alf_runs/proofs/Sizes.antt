@@ -22,7 +22,8 @@ use Rattle.alf_runs.specs.Expressions.{load_from, value_of, results_of}
 use Rattle.lists.specs.TestLaws.{by_test}
 
 -- the values of operands in a row: the first, and those of the rest
-pub record Row (first : Result Value RunFault) (rest : List (Result Value RunFault)) (values : List Value) : Type 0 where
+pub record Row (first : Result Value RunFault) (rest : List (Result Value RunFault))
+    (values : List Value) : Type 0 where
   pub value : Value
   pub others : List Value
   pub first_is : first ≡ Ok value
@@ -30,16 +31,19 @@ pub record Row (first : Result Value RunFault) (rest : List (Result Value RunFau
   pub all : value ∷ others ≡ values
 
 -- operands that have values: the first has one, and the rest do
-pub row_of : (first : Result Value RunFault) (rest : List (Result Value RunFault)) (values : List Value) → operands (first ∷ rest) ≡ Ok values → Row first rest values
+pub row_of : (first : Result Value RunFault) (rest : List (Result Value RunFault)) (values : List Value)
+    → operands (first ∷ rest) ≡ Ok values → Row first rest values
 row_of (Err fault) rest values are = cc
 row_of (Ok value) rest values are = go (operands rest) refl are
   where
-    go : (r : Result (List Value) RunFault) → operands rest ≡ r → before value r ≡ Ok values → Row (Ok value) rest values
+    go : (r : Result (List Value) RunFault) → operands rest ≡ r → before value r ≡ Ok values
+        → Row (Ok value) rest values
     go (Ok others) is together = record { value = value; others = others; first_is = refl; rest_are = is; all = cc }
     go (Err fault) is together = cc
 
 -- a size that an operator has is that of its result
-size_of_row : (test : Bool) (found size : ℕ) → (if test then Some found else None) ≡ (let o : Option ℕ = Some size in o) → found ≡ size
+size_of_row : (test : Bool) (found size : ℕ) → (if test then Some found else None) ≡ (let o : Option ℕ = Some size in o)
+    → found ≡ size
 size_of_row test found size is = by_test test
     (λ typed. let e : Some found ≡ (let o : Option ℕ = Some size in o) = rw typed at is in cc)
     (λ other. let e : None ≡ (let o : Option ℕ = Some size in o) = rw other at is in cc)
@@ -65,7 +69,8 @@ outcome_has : (outcomes : OutcomeFits) (op : Op) (sizes : List ℕ) (size : ℕ)
     → FitsValue size value
 outcome_has outcomes op sizes size operand_results value each result_is is = go (operands operand_results) refl is
   where
-    go : (r : Result (List Value) RunFault) → operands operand_results ≡ r → outcome_of_operands op sizes r ≡ Ok value → FitsValue size value
+    go : (r : Result (List Value) RunFault) → operands operand_results ≡ r → outcome_of_operands op sizes r ≡ Ok value
+        → FitsValue size value
     go (Ok values) are given = subst (λ n. FitsValue n value) (result_has op sizes size result_is) (outcomes op sizes values value (each values are) given)
     go (Err fault) are given = cc
 

@@ -36,7 +36,8 @@ use Rattle.alf_runs.proofs.Growing.{Promised, Grown, own_size, AllFit, stored_gr
 use Rattle.lists.specs.TestLaws.{by_test}
 
 -- the law of places, with the functions that run told by a test
-pub record Stands (program : NumberedProgram) (path : List ℕ) (place : Option ℕ) (history : List RunEvent) : Type 0 where
+pub record Stands (program : NumberedProgram) (path : List ℕ) (place : Option ℕ)
+    (history : List RunEvent) : Type 0 where
   pub calls : IsCallPath program path
   pub there : HasPlace program path place
   pub runs : (f : ℕ) → is_running history f ≡ is_among f (functions_on program path)
@@ -52,15 +53,18 @@ IsSafe program (Over Lost) = ⊥
 -- ---- within an instance
 
 -- on to a block of the same instance
-on_to : (program : NumberedProgram) (path : List ℕ) (place : Option ℕ) (history : List RunEvent) (to : ℕ) → Stands program path place history
+on_to : (program : NumberedProgram) (path : List ℕ) (place : Option ℕ) (history : List RunEvent) (to : ℕ)
+    → Stands program path place history
     → IsBlockOf program (function_at program path) to → Stands program path (Some to) history
 on_to program path place history to stands there = record { calls = stands.calls; there = there; runs = stands.runs; sound = stands.sound }
 
 -- the history grew, in the same place
-grown_on : (program : NumberedProgram) (path : List ℕ) (place : Option ℕ) (history new : List RunEvent) → Stands program path place history → Grown history new → Stands program path place new
+grown_on : (program : NumberedProgram) (path : List ℕ) (place : Option ℕ) (history new : List RunEvent)
+    → Stands program path place history → Grown history new → Stands program path place new
 grown_on program path place history new stands grown = record { calls = stands.calls; there = stands.there; runs = λ f. grown.runs f ∙ stands.runs f; sound = grown.sound }
 
-target_there : (program : NumberedProgram) (k size : ℕ) (targets : List (ℕ × ℕ)) (others word : ℕ) → All (TargetKeeps program k size) targets → IsBlockOf program k others
+target_there : (program : NumberedProgram) (k size : ℕ) (targets : List (ℕ × ℕ)) (others word : ℕ)
+    → All (TargetKeeps program k size) targets → IsBlockOf program k others
     → IsBlockOf program k (target_of targets others word)
 target_there program k size [] others word keep there = there
 target_there program k size (target ∷ targets) others word keep there = by_test (target.0 == word)
@@ -129,12 +133,14 @@ result_safe promised program path next None (Some value) history stands want = a
 result_safe promised program path next (Some to) None history stands want = absurd want
 result_safe promised program path next (Some to) (Some value) history stands want = go (store (frames_of program) history (Ptr to.0 to.1) value) refl
   where
-    go : (r : Result (List RunEvent) RunFault) → store (frames_of program) history (Ptr to.0 to.1) value ≡ r → IsSafe program (move_on path next r)
+    go : (r : Result (List RunEvent) RunFault) → store (frames_of program) history (Ptr to.0 to.1) value ≡ r
+        → IsSafe program (move_on path next r)
     go (Ok new) is = grown_on program path (Some next) history new stands (stored_grown promised (frames_of program) history new (Ptr to.0 to.1) value stands.sound want is)
     go (Err fault) is = tt
 
 -- after the newest function is left, those before it on the path run
-left_runs : (program : NumberedProgram) → IsKept program → (path : List ℕ) (b : ℕ) (place : Option ℕ) (history : List RunEvent) → Stands program (b ∷ path) place history
+left_runs : (program : NumberedProgram) → IsKept program
+    → (path : List ℕ) (b : ℕ) (place : Option ℕ) (history : List RunEvent) → Stands program (b ∷ path) place history
     → (f : ℕ) → is_running (Leave (function_at program (b ∷ path)) ∷ history) f ≡ is_among f (functions_on program path)
 left_runs program kept path b place history stands f = by_test (function_at program (b ∷ path) == f)
     (λ same.
@@ -163,13 +169,15 @@ leave_safe promised program kept (b ∷ path) place returned value history stand
 
 -- ---- blocks
 
-return_safe : Promised → (program : NumberedProgram) → IsKept program → (path : List ℕ) (place : Option ℕ) (e : NumberedExpression) (history : List RunEvent) (r : Result Value RunFault)
+return_safe : Promised → (program : NumberedProgram) → IsKept program
+    → (path : List ℕ) (place : Option ℕ) (e : NumberedExpression) (history : List RunEvent) (r : Result Value RunFault)
     → Stands program path place history → IsReturn program (function_at program path) (Some e) → ((value : Value) → r ≡ Ok value → FitsValue (size_of value) value)
     → IsSafe program (return_step program path history r)
 return_safe promised program kept path place e history (Ok value) stands return fits = leave_safe promised program kept path place (Some e) (Some value) history stands return (fits value refl)
 return_safe promised program kept path place e history (Err fault) stands return fits = tt
 
-ending_safe : Promised → (program : NumberedProgram) → IsKept program → (path : List ℕ) (b : ℕ) (block : NumberedBlock) (ending : BlockEnding) (history : List RunEvent)
+ending_safe : Promised → (program : NumberedProgram) → IsKept program
+    → (path : List ℕ) (b : ℕ) (block : NumberedBlock) (ending : BlockEnding) (history : List RunEvent)
     → Stands program path (Some b) history → slice_get (blocks_at program (function_at program path)) b ≡ Some block → block.ending ≡ ending
     → KeepsEnding program (function_at program path) b ending → IsSafe program (ending_step program path b ending history)
 ending_safe promised program kept path b block (Fall next) history stands at is keeps = on_to program path (Some b) history next stands keeps.there
@@ -189,14 +197,16 @@ ending_safe promised program kept path b block (Return (Some e)) history stands 
     (λ value given. own_size keeps.size value
     (value_fits promised.outcomes promised.loads program.frames (function_at program path) (frames_of program) history stands.sound e keeps.size value keeps.gives given))
 
-block_safe : Promised → (program : NumberedProgram) → IsKept program → (path : List ℕ) (b : ℕ) (history : List RunEvent) (o : Option NumberedBlock)
+block_safe : Promised → (program : NumberedProgram) → IsKept program
+    → (path : List ℕ) (b : ℕ) (history : List RunEvent) (o : Option NumberedBlock)
     → Stands program path (Some b) history → slice_get (blocks_at program (function_at program path)) b ≡ o → IsSafe program (block_step program path b o history)
 block_safe promised program kept path b history None stands none =
     absurd (let blocks = blocks_at program (function_at program path) in
     elim (slice_get_cases blocks b).1 as (λ _. ⊥) [ inl some ↦ none-some some.0 (sym none ∙ some.2) | inr past ↦ (let low = stands.there in let high = past.0 in omega arith) ])
 block_safe promised program kept path b history (Some block) stands at = go (after_statements (frames_of program) block.statements (Ok history)) refl
   where
-    go : (r : Result (List RunEvent) RunFault) → after_statements (frames_of program) block.statements (Ok history) ≡ r → IsSafe program (then_ending program path b block.ending r)
+    go : (r : Result (List RunEvent) RunFault) → after_statements (frames_of program) block.statements (Ok history) ≡ r
+        → IsSafe program (then_ending program path b block.ending r)
     go (Ok new) is =
         let keeps = keeps_block program kept (function_at program path) b block at in
         let grown = statements_grown promised program.frames (function_at program path) (frames_of program) history new block.statements stands.sound keeps.statements is in
@@ -204,10 +214,12 @@ block_safe promised program kept path b history (Some block) stands at = go (aft
     go (Err fault) is = tt
 
 -- an entry moves on to block 0, which each function has
-entry_there : (program : NumberedProgram) → IsKept program → (path : List ℕ) → IsCallPath program path → IsBlockOf program (function_at program path) 0
+entry_there : (program : NumberedProgram) → IsKept program → (path : List ℕ) → IsCallPath program path
+    → IsBlockOf program (function_at program path) 0
 entry_there program kept path calls = go path calls
   where
-    some_block : (k : ℕ) (function : NumberedFunction) → slice_get program.funcs k ≡ Some function → IsBlockOf program k 0
+    some_block : (k : ℕ) (function : NumberedFunction) → slice_get program.funcs k ≡ Some function
+        → IsBlockOf program k 0
     some_block k function found =
         let blocks : blocks_at program k ≡ function.blocks = ap (λ (o : Option NumberedFunction). option_map_or (λ function. function.blocks) o []) found in
         subst (λ (bs : List NumberedBlock). 0 < length bs) (sym blocks) (kept.functions k function found).some
@@ -220,13 +232,15 @@ entry_there program kept path calls = go path calls
     go (b ∷ path) calls = let on = call_on program kept path b calls.0 in subst (λ k. IsBlockOf program k 0) (sym on.enters) (some_block calls.0.func on.keeps.function on.keeps.at)
 
 -- a step leads from a place to another, or to an end that some rule gives
-pub step_safe : Promised → (program : NumberedProgram) → IsKept program → (path : List ℕ) (place : Option ℕ) (history : List RunEvent)
+pub step_safe : Promised → (program : NumberedProgram) → IsKept program
+    → (path : List ℕ) (place : Option ℕ) (history : List RunEvent)
     → Stands program path place history → IsSafe program (node_step program path place history)
 step_safe promised program kept path None history stands = on_to program path None history 0 stands (entry_there program kept path stands.calls)
 step_safe promised program kept path (Some b) history stands = block_safe promised program kept path b history (slice_get (blocks_at program (function_at program path)) b) stands refl
 
 -- a run starts at a place
-pub start_stands : (program : NumberedProgram) → IsKept program → (rows : List InputRow) (words : List ℕ) → AreWords rows words → Stands program [] None (start_history program rows words)
+pub start_stands : (program : NumberedProgram) → IsKept program → (rows : List InputRow) (words : List ℕ)
+    → AreWords rows words → Stands program [] None (start_history program rows words)
 start_stands program kept rows words fit =
     let globals : List RunEvent = with_inits program.inits [] in
     record {

@@ -63,7 +63,8 @@ arguments_stored program f (arg ∷ args) (value ∷ values) history new runs ow
     (arguments_stored program f args values (events.Store arg 0 (size_of value) value ∷ history) new runs (All-tail (IsFrameOf program.frames (Some f)) arg args owned) fit.1 rest)
 
 -- while the frames of an owner are active, what they hold at first is stored, and then more
-inits_stored : (program : NumberedProgram) (owner : Option ℕ) (inits : List InitRow) (history new : List RunEvent) → is_active owner history ≡ true
+inits_stored : (program : NumberedProgram) (owner : Option ℕ) (inits : List InitRow) (history new : List RunEvent)
+    → is_active owner history ≡ true
     → All (InitFits program.frames owner) inits
     → ((later : List RunEvent) → later ≡ with_inits inits history → is_active owner later ≡ true → ByStores (frames_of program) later new)
     → ByStores (frames_of program) history new
@@ -129,15 +130,19 @@ no_arguments : (program : NumberedProgram) (here : List RunEvent)
     → with_inits (inits_at program program.root) (with_arguments (args_at program program.root) [] here) ≡ with_inits (inits_at program program.root) here
 no_arguments program here = ap (with_inits (inits_at program program.root)) (none_stored (args_at program program.root) here)
 
-inits_of : (program : NumberedProgram) → IsKept program → (f : ℕ) → All (InitFits program.frames (Some f)) (inits_at program f)
+inits_of : (program : NumberedProgram) → IsKept program → (f : ℕ)
+    → All (InitFits program.frames (Some f)) (inits_at program f)
 inits_of program kept f = go (slice_get program.funcs f) refl
   where
-    go : (o : Option NumberedFunction) → slice_get program.funcs f ≡ o → All (InitFits program.frames (Some f)) (option_map_or (λ function. function.inits) o [])
+    go : (o : Option NumberedFunction) → slice_get program.funcs f ≡ o
+        → All (InitFits program.frames (Some f)) (option_map_or (λ function. function.inits) o [])
     go None found = All-nil (InitFits program.frames (Some f))
     go (Some function) found = (kept.functions f function found).inits
 
 -- a cell of an input row lies in a frame that is active while the root runs
-input_active : (program : NumberedProgram) → IsKept program → (row : InputRow) (keeps : KeepsInput program row) (history : List RunEvent) → is_running history program.root ≡ true
+input_active : (program : NumberedProgram) → IsKept program
+    → (row : InputRow) (keeps : KeepsInput program row) (history : List RunEvent)
+    → is_running history program.root ≡ true
     → is_active keeps.row.owner history ≡ true
 input_active program kept row keeps history runs = ⊎_elim
     (λ (global : keeps.row.owner ≡ None). subst (λ (o : Option ℕ). is_active o history ≡ true) (sym global) refl)
@@ -151,7 +156,8 @@ input_active program kept row keeps history runs = ⊎_elim
     subst (λ (o : Option ℕ). is_active o history ≡ true) (sym (sym (ap (λ (r : FrameRow). r.owner) same) ∙ own.owned)) runs)
     keeps.may
 
-inputs_stored : (program : NumberedProgram) → IsKept program → (rows : List InputRow) (words : List ℕ) (history : List RunEvent) → is_running history program.root ≡ true
+inputs_stored : (program : NumberedProgram) → IsKept program
+    → (rows : List InputRow) (words : List ℕ) (history : List RunEvent) → is_running history program.root ≡ true
     → All (KeepsInput program) rows → ByStores (frames_of program) history (with_inputs rows words history)
 inputs_stored program kept [] words history runs keep = unchanged history
 inputs_stored program kept (row ∷ rows) [] history runs keep = unchanged history
@@ -164,7 +170,8 @@ inputs_stored program kept (row ∷ rows) (word ∷ words) history runs keep =
     (inputs_stored program kept rows words (events.Store row.frame row.offset row.size value ∷ history) runs (All-tail (KeepsInput program) row rows keep))
 
 -- the root is entered without arguments, and then come more stores
-root_enters : (program : NumberedProgram) → IsKept program → (new globals : List RunEvent) → ByStores (frames_of program) (entered program program.root [] globals) new
+root_enters : (program : NumberedProgram) → IsKept program → (new globals : List RunEvent)
+    → ByStores (frames_of program) (entered program program.root [] globals) new
     → ByStores (frames_of program) (Enter program.root ∷ globals) new
 root_enters program kept new globals rest =
     let here : List RunEvent = Enter program.root ∷ globals in
@@ -172,7 +179,8 @@ root_enters program kept new globals rest =
     inits_stored program (Some program.root) (inits_at program program.root) here new runs (inits_of program kept program.root)
     (λ later same active. subst (λ (h : List RunEvent). ByStores (frames_of program) h new) (no_arguments program here ∙ sym same) rest)
 
-pub starts_by_stores : (program : NumberedProgram) (rows : List InputRow) (words : List ℕ) → IsKept program → KeepInputs program rows → AreWords rows words → ComesByStores program rows words
+pub starts_by_stores : (program : NumberedProgram) (rows : List InputRow) (words : List ℕ) → IsKept program
+    → KeepInputs program rows → AreWords rows words → ComesByStores program rows words
 starts_by_stores program rows words kept keep fit =
     let globals : List RunEvent = with_inits program.inits [] in
     let root_runs : is_running (entered program program.root [] globals) program.root ≡ true =

@@ -1,5 +1,5 @@
--- What an expression gives after a history.
--- The history has the events of the run so far, the newest first; the table of frames has for each frame its owner and its size.
+-- What an expression gives after a history. The history has the events of the run so far, the newest first; the table
+-- of frames has for each frame its owner and its size.
 --   value_of frames history e      the value of the expression, or its first fault
 --   results_of frames history es   those of expressions in a row
 use Rattle.std.specs.Prelude.{ℕ, List, [], ◌∷◌, Result, Ok, Err}

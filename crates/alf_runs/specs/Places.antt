@@ -49,7 +49,8 @@ IsOwnedAlong program path (Some function) = Contains (functions_on program path)
 abbrev pub ActiveAlong : NumberedProgram → List ℕ → List RunEvent → Type 0
 ActiveAlong program path history = (owner : Option ℕ) → (is_active owner history ≡ true) ↔ IsOwnedAlong program path owner
 
--- what holds where a run stands: its path is one of calls, the place is there, the active frames are those along the path, and each value stored has its size
+-- what holds where a run stands: its path is one of calls, the place is there, the active frames are those along the
+-- path, and each value stored has its size
 pub record IsPlace (program : NumberedProgram) (node : Node) (history : List RunEvent) : Type 0 where
   pub calls : IsCallPath program node.path
   pub there : HasPlace program node.path node.block

@@ -24,7 +24,8 @@ with_inputs [] words history = history
 with_inputs (row ∷ rows) [] history = history
 with_inputs (row ∷ rows) (bits ∷ words) history = with_inputs rows words (Store row.frame row.offset row.size (Int row.size bits) ∷ history)
 
--- the history at the start: what global frames hold at first, the root entered without arguments, and the words of the input rows
+-- the history at the start: what global frames hold at first, the root entered without arguments, and the words of the
+-- input rows
 abbrev pub start_history : NumberedProgram → List InputRow → List ℕ → List RunEvent
 start_history program rows words = with_inputs rows words (entered program program.root [] (with_inits program.inits []))
 

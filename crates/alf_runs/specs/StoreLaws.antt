@@ -35,7 +35,8 @@ use Rattle.alf_runs.specs.Places.{AreWords}
 -- the new history comes from the old one by stores that have no fault
 pub data ByStores (frames : List FrameShape) : List RunEvent → List RunEvent → Type 0 where
   unchanged : (history : List RunEvent) → ByStores frames history history
-  first_store : (old middle new : List RunEvent) (place value : Value) → store frames old place value ≡ Ok middle → ByStores frames middle new → ByStores frames old new
+  first_store : (old middle new : List RunEvent) (place value : Value) → store frames old place value ≡ Ok middle
+      → ByStores frames middle new → ByStores frames old new
 
 -- the frame has the size of the value
 pub record FitsFrame (rows : List FrameRow) (frame : ℕ) (value : Value) : Type 0 where

@@ -57,7 +57,8 @@ abbrev cost : Node → ℕ
 cost node = elim node.block as (λ _. ℕ) [ None ↦ 10 | Some b ↦ 1 ]
 
 -- the run comes to this outcome after so many steps, and has these nodes before it
-pub record ComesTo (program : NumberedProgram) (start : Moment) (steps : ℕ) (nodes : List Node) (outcome : Outcome) (total : ℕ) : Type 0 where
+pub record ComesTo (program : NumberedProgram) (start : Moment) (steps : ℕ) (nodes : List Node) (outcome : Outcome)
+    (total : ℕ) : Type 0 where
   pub over : after program steps start ≡ Over outcome
   pub passes : trace program steps start ≡ nodes
   pub costs : cost_of cost (trace program steps start) ≡ total
@@ -172,7 +173,8 @@ GivesBack = ComesTo given_back (start given_back (input_row ∷ []) (words_of (i
 
 -- ---- switches and exports
 
--- main switches on a word; of two targets with one word the first counts; each block stores its number in the exported frame
+-- main switches on a word; of two targets with one word the first counts; each block stores its number in the exported
+-- frame
 abbrev switched : ℕ → NumberedProgram
 switched n = program (global ∷ []) [] (0 ∷ []) (
     function [] [] (

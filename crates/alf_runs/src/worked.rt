@@ -1,6 +1,8 @@
 //! Runs of small programs, worked out apart from the definitions.
 
-ghost use Rattle.alf_runs.specs.Worked.{CallsTwice, FallsToTheDefault, GivesBack, LeavesFirst, StandsLast, StoresInOrder, FaultsUnset, FaultsPartlySet, FaultsAtPartOfPointer, ReadsLowestFirst, FaultsDangling, FaultsOutside, FaultsAtPointer};
+ghost use Rattle.alf_runs.specs.Worked.{CallsTwice, FallsToTheDefault, GivesBack, LeavesFirst, StandsLast};
+ghost use Rattle.alf_runs.specs.Worked.{StoresInOrder, FaultsUnset, FaultsPartlySet, FaultsAtPartOfPointer};
+ghost use Rattle.alf_runs.specs.Worked.{ReadsLowestFirst, FaultsDangling, FaultsOutside, FaultsAtPointer};
 
 /// A call passes the entry and the block of the function that is called, and a switch leads to the first target of
 /// the word, or to the default; exported frames are loaded once the root is left.

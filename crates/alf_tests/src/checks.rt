@@ -22,14 +22,26 @@ dec_unsigned 32 2 } } { return } } } } } }";
 // `@A` is the label A, `^A` a jump to it, `=x` a store in the frame x, `!f` a call of f; after `/f`
 // stand the items of a further function f.
 static WORDS: [Row; 5] = [
-    ("@", "{ label 32 { lref 32 \"", "\" } { dec_unsigned 32 0 } } "),
-    ("^", "{ jump { label 32 { lref 32 \"", "\" } { dec_unsigned 32 0 } } leaving 0 } "),
+    (
+        "@",
+        "{ label 32 { lref 32 \"",
+        "\" } { dec_unsigned 32 0 } } ",
+    ),
+    (
+        "^",
+        "{ jump { label 32 { lref 32 \"",
+        "\" } { dec_unsigned 32 0 } } leaving 0 } ",
+    ),
     (
         "=",
         "{ store { addr 32 { fref 32 \"",
         "\" } { dec_unsigned 32 0 } } with { dec_unsigned 32 1 } } ",
     ),
-    ("!", "{ call { label 32 { lref 32 \"", "\" } { dec_unsigned 32 0 } } result } "),
+    (
+        "!",
+        "{ call { label 32 { lref 32 \"",
+        "\" } { dec_unsigned 32 0 } } result } ",
+    ),
     (
         "/",
         "} } } { func { label 32 { lref 32 \"",

@@ -1,6 +1,6 @@
 //! Tests of texts of ALF, of their checks, graphs and outlines, of memories, tables and runs: `alf_text`, `alf_faults`,
-//! `alf_check`, `flow_graph`, `scope_graph`, `alf_values`, `cost_table`, `response_time` and `alf_interp`. Without tests
-//! this library is empty.
+//! `alf_check`, `flow_graph`, `scope_graph`, `alf_values`, `cost_table`, `response_time` and `alf_interp`. Without
+//! tests this library is empty.
 //!
 //! - `printed_texts`: texts that are read and printed.
 //! - `names`, `faults`, `checks`: names, each fault of names and sizes, and whole checks. `sketch`: programs as values, from a

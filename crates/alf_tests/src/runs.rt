@@ -30,9 +30,21 @@ const OWN: &str = "\
 // `'0` a bit. After `/f` stand the items of a further function, and after `%f` those of one with the
 // argument `a`.
 static WORDS: [Row; 7] = [
-    ("@", "{ label 32 { lref 32 \"", "\" } { dec_unsigned 32 0 } } "),
-    ("&", "{ addr 32 { fref 32 \"", "\" } { dec_unsigned 32 0 } } "),
-    ("*", "{ load 32 { addr 32 { fref 32 \"", "\" } { dec_unsigned 32 0 } } } "),
+    (
+        "@",
+        "{ label 32 { lref 32 \"",
+        "\" } { dec_unsigned 32 0 } } ",
+    ),
+    (
+        "&",
+        "{ addr 32 { fref 32 \"",
+        "\" } { dec_unsigned 32 0 } } ",
+    ),
+    (
+        "*",
+        "{ load 32 { addr 32 { fref 32 \"",
+        "\" } { dec_unsigned 32 0 } } } ",
+    ),
     ("#", "{ dec_unsigned 32 ", " } "),
     ("'", "{ dec_unsigned 1 ", " } "),
     (

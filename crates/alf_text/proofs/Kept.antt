@@ -42,7 +42,8 @@ abbrev Stays : {some : Bool} {A : Type 0} → Rule some A → (A → Type 0) →
 Stays p Q = Keeping.Stays Good p.form Q
 
 -- where a test decides between a reading and a departure, or a value and none
-passed : {A : Type 0} (b : Bool) (r : Result A Fault) (f : Fault) (x : A) → cond b r (Err f) ≡ Ok x → (b ≡ true) × (r ≡ Ok x)
+passed : {A : Type 0} (b : Bool) (r : Result A Fault) (f : Fault) (x : A) → cond b r (Err f) ≡ Ok x
+    → (b ≡ true) × (r ≡ Ok x)
 passed true r f x e = (refl, e)
 passed false r f x e = ok_no_err x f e
 
@@ -73,14 +74,16 @@ unfolding begin
 begin_passes w = passes (λ room. opening_passes >>- λ _ _. word_passes w >>- λ _ _. done refl)
 
 -- the brace that closes, and then a value
-ending : {A : Type 0} {a : A} {room : Room} {Q : A → Room → Type 0} → Q a room → Keeps Good (bound closing.form (λ _. made a)) room Q
+ending : {A : Type 0} {a : A} {room : Room} {Q : A → Room → Type 0} → Q a room
+    → Keeps Good (bound closing.form (λ _. made a)) room Q
 ending h = closing_passes >>- λ _ _. done h
 
 unknown_stays : {A : Type 0} {Q : A → Type 0} (t : Lexeme) → Stays (unknown {A = A} t) Q
 unfolding unknown
 unknown_stays t = refused_stays
 
-either_stays : {A : Type 0} {Q : A → Type 0} (b : Bool) (p q : Rule true A) → Stays p Q → Stays q Q → Stays (either b p q) Q
+either_stays : {A : Type 0} {Q : A → Type 0} (b : Bool) (p q : Rule true A) → Stays p Q → Stays q Q
+    → Stays (either b p q) Q
 either_stays true p q hp hq = hp
 either_stays false p q hp hq = hq
 
@@ -103,7 +106,8 @@ within : (most : ℕ) (ds : List ℕ) (n : ℕ) → number_within most ds ≡ So
 within most [] n e = absurd cc
 within most (d ∷ ds) n e = let low = chosen (nat_le (number_of (d ∷ ds)) most) (number_of (d ∷ ds)) n e in omega (arith, leb-true _ _ low.0, low.1)
 
-from_bounds : (least step : ℕ) (o : Option ℕ) (n : ℕ) → from_least least step o ≡ Some n → (o ≡ Some n) × (least ≤ n) × (n % step ≡ 0)
+from_bounds : (least step : ℕ) (o : Option ℕ) (n : ℕ) → from_least least step o ≡ Some n
+    → (o ≡ Some n) × (least ≤ n) × (n % step ≡ 0)
 from_bounds least step None n e = absurd cc
 from_bounds least step (Some m) n e =
     let c = chosen (nat_le least m && (m % step == 0)) m n e in
@@ -114,7 +118,8 @@ some_of : {A : Type 0} (f : Fault) (o : Option A) (x : A) → or_fault f o ≡ O
 some_of f None x e = ok_no_err x f e
 some_of f (Some y) x e = ap (λ z. Some z) (ok_is {F = Fault} y x e)
 
-fits_some : {A : Type 0} (other : Lexeme → Fault) (table : List ℕ → Option A) (t : Lexeme) (x : A) → fits_number other table t ≡ Ok x → table t.text ≡ Some x
+fits_some : {A : Type 0} (other : Lexeme → Fault) (table : List ℕ → Option A) (t : Lexeme) (x : A)
+    → fits_number other table t ≡ Ok x → table t.text ≡ Some x
 fits_some other table t x e = some_of (other t) (table t.text) x (passed (is_kind kinds.Number t.kind) (or_fault (other t) (table t.text)) (misfit t) x e).1
 
 between_keeps : (least most step : ℕ) → Stays (between least most step) (IsBetween least most step)
@@ -178,7 +183,8 @@ unfolding one_frame
 one_frame_keeps = spent_keeps (λ room. room.frames) (λ room n. record { functions = room.functions; frames = n; bytes = room.bytes }) (Limit Frames (most_frames + 1)) 1 with_frame
     (λ room le. let e : room.frames - 1 + 1 ≡ room.frames = omega arith in rw e refl)
 
-more_bytes_keeps : (bytes : ℕ) (room : Room) → Keeps Good (more_bytes bytes).form room (λ x after. room ≡ with_bytes bytes after)
+more_bytes_keeps : (bytes : ℕ) (room : Room)
+    → Keeps Good (more_bytes bytes).form room (λ x after. room ≡ with_bytes bytes after)
 unfolding more_bytes
 more_bytes_keeps bytes = spent_keeps (λ room. room.bytes) (λ room n. record { functions = room.functions; frames = room.frames; bytes = n }) (Limit AllBytes (most_bytes_of_frames + 1)) bytes (with_bytes bytes)
     (λ room le. let e : room.bytes - bytes + bytes ≡ room.bytes = omega arith in rw e refl)
@@ -201,7 +207,8 @@ frame_keeps : (room : Room) → Keeps Good alloc.form room (λ f after. Allocati
 unfolding alloc
 frame_keeps room = opening_passes >>- λ _ _. one_frame_keeps room >>> λ _ mid h. word_passes (codes "alloc") >>- λ _ _. fixed_passes 32 >>- λ _ _. name_keeps >>- λ n i. bits_keep mid >>> λ b last k. ending (record { name = i; some = k.0.some; bytes = k.0.bytes; small = k.0.small }, h ∙ ap with_frame k.1)
 
-frames_keep : (list : List ℕ) (room : Room) → Keeps Good (allocs list).form room (λ fs after. All AllocationIsWritable fs × (room ≡ needs fs after))
+frames_keep : (list : List ℕ) (room : Room)
+    → Keeps Good (allocs list).form room (λ fs after. All AllocationIsWritable fs × (room ≡ needs fs after))
 unfolding allocs
 frames_keep list room = begin_passes list >>- λ _ _. row_keeps opens alloc.form need frame_keeps room >>> λ fs mid h. ending (h.0, h.1)
 
@@ -253,7 +260,8 @@ sizes_keep op = stays (λ room. size_keeps >>- λ s w. exactly_stays (size_count
 abbrev Fits : ℕ → NamedExpression → Type 0
 Fits depth t = PartsAreWritable t × (depth_of t ≤ depth)
 
-terms_fit : (depth : ℕ) (ts : List NamedExpression) → All (Fits depth) ts → AllPartsAreWritable (expressions_of ts) × (most_deep (expressions_of ts) ≤ depth)
+terms_fit : (depth : ℕ) (ts : List NamedExpression) → All (Fits depth) ts
+    → AllPartsAreWritable (expressions_of ts) × (most_deep (expressions_of ts) ≤ depth)
 terms_fit depth [] h = (tt, omega arith)
 terms_fit depth (t ∷ ts) h =
     let fits = All-head (Fits depth) t ts h in
@@ -335,16 +343,19 @@ scope_keeps : (room : Room) → Keeps Good scope.form room (λ s after. InScope 
 unfolding scope
 scope_keeps room = begin_passes (codes "scope") >>- λ _ _. frames_keep (codes "decls") room >>> λ fs mid h. starts_keep >>- λ ss i. stmts_keep >>- λ xs k. ending (λ n args w v. record { name = w; args = v; decls = h.0; inits = i; items = k.0; ends = k.1 }, h.1)
 
-function_tail_keeps : (room : Room) → Keeps Good function_tail.form room (λ f after. FunctionIsWritable f × (room ≡ needs f.args (needs f.decls after)))
+function_tail_keeps : (room : Room)
+    → Keeps Good function_tail.form room (λ f after. FunctionIsWritable f × (room ≡ needs f.args (needs f.decls after)))
 unfolding function_tail arg_decls
 function_tail_keeps room = label_keeps >>- λ n w. frames_keep (codes "arg_decls") room >>> λ fs mid h. scope_keeps mid >>> λ s last k. ending (k.0 n fs w h.0, h.1 ∙ ap (needs fs) k.1)
 
-function_keeps : (room : Room) → Keeps Good function.form room (λ f after. FunctionIsWritable f × (room ≡ func_needs f after))
+function_keeps : (room : Room)
+    → Keeps Good function.form room (λ f after. FunctionIsWritable f × (room ≡ func_needs f after))
 unfolding function
 function_keeps room = opening_passes >>- λ _ _. one_function_keeps room >>> λ _ mid h. word_passes (codes "func") >>- λ _ _. function_tail_keeps mid >>> λ f last k.
     done (k.0, h ∙ ap with_function k.1)
 
-functions_keep : (room : Room) → Keeps Good functions.form room (λ fs after. All FunctionIsWritable fs × (room ≡ all_need fs after))
+functions_keep : (room : Room)
+    → Keeps Good functions.form room (λ fs after. All FunctionIsWritable fs × (room ≡ all_need fs after))
 unfolding functions
 functions_keep room = begin_passes (codes "funcs") >>- λ _ _. row_keeps opens function.form func_needs function_keeps room >>> λ fs mid h. ending (h.0, h.1)
 

@@ -33,7 +33,8 @@ frames_need (f ∷ fs) room =
     let h = frames_need fs room in
     record { functions_due = omega (arith, h.functions_due); frames_due = omega (arith, h.frames_due); bytes_due = omega (arith, h.bytes_due, sum_by-cons frame_bytes f fs) }
 
-functions_need : (fs : List Function) (room : Room) → HasMore (all_need fs room) room (length fs) (length (flat_map own_frames fs)) (bytes_of (flat_map own_frames fs))
+functions_need : (fs : List Function) (room : Room)
+    → HasMore (all_need fs room) room (length fs) (length (flat_map own_frames fs)) (bytes_of (flat_map own_frames fs))
 functions_need [] room = record { functions_due = omega arith; frames_due = omega arith; bytes_due = omega arith }
 functions_need (f ∷ fs) room =
     let h = functions_need fs room in
@@ -50,7 +51,8 @@ functions_need (f ∷ fs) room =
 abbrev pub whole_needs : WholeProgram → Room → Room
 whole_needs whole room = needs whole.decls (all_need whole.funcs room)
 
-pub whole_counted : (whole : WholeProgram) (room : Room) → HasMore (whole_needs whole room) room (length whole.funcs) (length (frames_of whole)) (bytes_of (frames_of whole))
+pub whole_counted : (whole : WholeProgram) (room : Room)
+    → HasMore (whole_needs whole room) room (length whole.funcs) (length (frames_of whole)) (bytes_of (frames_of whole))
 whole_counted whole room =
     let h = functions_need whole.funcs room in
     let d = frames_need whole.decls (all_need whole.funcs room) in

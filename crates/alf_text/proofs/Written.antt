@@ -37,7 +37,8 @@ use Rattle.alf_reader.specs.SignedLaws.{low_power, some_power, half_power, below
 abbrev pub printing : Printing Lexeme Mark
 printing = record { fits = is_mark; before = token_before }
 
-abbrev Writes : {A : Type 0} → (Place → Bool) → List Mark → Form Lexeme Room Fault A → List Mark → Room → Room → A → Type 0
+abbrev Writes : {A : Type 0} → (Place → Bool) → List Mark → Form Lexeme Room Fault A → List Mark → Room → Room → A
+    → Type 0
 Writes goes_on end p marks before after x = writing.Writes printing goes_on end p marks before after x
 
 -- nothing is counted
@@ -62,7 +63,8 @@ last : {A B : Type 0} {xs : List Mark} {p : Form Lexeme Room Fault A} {f : A →
 last h = last_row (λ more. refl) h
 
 -- with the brace that closes
-closed : {A : Type 0} {goes : Place → Bool} {xs : List Mark} {p : Form Lexeme Room Fault A} {a b : Room} {x : A} → Writes goes (closes ∷ []) p xs a b x → Writes goes [] p (xs ++ closes ∷ []) a b x
+closed : {A : Type 0} {goes : Place → Bool} {xs : List Mark} {p : Form Lexeme Room Fault A} {a b : Room} {x : A}
+    → Writes goes (closes ∷ []) p xs a b x → Writes goes [] p (xs ++ closes ∷ []) a b x
 closed h = ended refl h
 
 any_writes : {A : Type 0} (Fine : A → Type 0) (p : Rule true A) (marks : A → List Mark)
@@ -75,10 +77,12 @@ any_writes Fine p marks begins each (Some x) w {room = room} = let h = each x w 
 -- ---- single tokens
 
 -- a number is read from its own digits
-own_digits : (least most step n : ℕ) → n < 2 ^ 64 → least ≤ n → n ≤ most → n % step ≡ 0 → number_between least most step (decimal n) ≡ Some n
+own_digits : (least most step n : ℕ) → n < 2 ^ 64 → least ≤ n → n ≤ most → n % step ≡ 0
+    → number_between least most step (decimal n) ≡ Some n
 own_digits least most step n lt low high whole = let l : leb least n ≡ true = le-leb _ _ low in let z : eqb (n % step) 0 ≡ true = eq-eqb _ _ whole in rw (decimal_within most n lt high, l, z) refl
 
-opening_writes : (blank : ℕ) → is_separator blank ≡ true → {room : Room} → Plain room opening (canonical.opens blank ∷ []) tt
+opening_writes : (blank : ℕ) → is_separator blank ≡ true → {room : Room}
+    → Plain room opening (canonical.opens blank ∷ []) tt
 unfolding opening
 opening_writes blank b = record { prints = rw b refl; reads = λ more free. refl }
 
@@ -86,7 +90,8 @@ word_writes : (w : List ℕ) → is_word_text w ≡ true → {room : Room} → P
 unfolding word
 word_writes w h = record { prints = rw h refl; reads = λ more free. let same : bytes_eq w w ≡ true = (bytes_eq-Decides w w).1 refl in rw same refl }
 
-begin_writes : (blank : ℕ) (w : List ℕ) → is_separator blank ≡ true → is_word_text w ≡ true → {room : Room} → Plain room (begin w) (canonical.opens blank ∷ a_word w ∷ []) tt
+begin_writes : (blank : ℕ) (w : List ℕ) → is_separator blank ≡ true → is_word_text w ≡ true → {room : Room}
+    → Plain room (begin w) (canonical.opens blank ∷ a_word w ∷ []) tt
 unfolding begin
 begin_writes blank w b h = opening_writes blank b then λ _. as_value (word_writes w h)
 
@@ -102,7 +107,8 @@ name_writes : (n : List ℕ) → IsName n → {room : Room} → Plain room name 
 unfolding name
 name_writes n w = record { prints = rw (name_text n w) refl; reads = λ more free. refl }
 
-number_writes : (least most step n : ℕ) → n < 2 ^ 64 → least ≤ n → n ≤ most → n % step ≡ 0 → {room : Room} → Plain room (between least most step) (a_number n ∷ []) n
+number_writes : (least most step n : ℕ) → n < 2 ^ 64 → least ≤ n → n ≤ most → n % step ≡ 0 → {room : Room}
+    → Plain room (between least most step) (a_number n ∷ []) n
 unfolding between
 number_writes least most step n lt low high whole = record { prints = rw (decimal_text n lt) refl; reads = λ more free. rw (own_digits least most step n lt low high whole) refl }
 
@@ -116,12 +122,14 @@ at_most_writes most n lt le = record { prints = rw (decimal_text n lt) refl; rea
 
 -- ---- names and labels
 
-reference_writes : (w n : List ℕ) → is_word_text w ≡ true → IsName n → {room : Room} → Plain room (reference w) (ref_marks w n) n
+reference_writes : (w n : List ℕ) → is_word_text w ≡ true → IsName n → {room : Room}
+    → Plain room (reference w) (ref_marks w n) n
 unfolding reference
 reference_writes w n h is = closed (begin_writes space w refl h then λ _. fixed_writes 32 (omega arith) then λ _. last (name_writes n is))
 
 -- a list of what begins with a brace
-list_writes : {A : Type 0} {marks : List Mark} {a b : Room} {xs : List A} (p : Rule true A) (list : List ℕ) → is_word_text list ≡ true → Writes opens [] (many opens p).form marks a b xs
+list_writes : {A : Type 0} {marks : List Mark} {a b : Room} {xs : List A} (p : Rule true A) (list : List ℕ)
+    → is_word_text list ≡ true → Writes opens [] (many opens p).form marks a b xs
     → Writes never [] (bound (begin list).form (λ _. bound (many opens p).form (λ xs. bound closing.form (λ _. made xs)))) (canonical.braced space list marks) a b xs
 list_writes p list h row = closed (begin_writes space list refl h then λ _. last_row (λ more. refl) row)
 
@@ -137,16 +145,19 @@ offset_writes o lt =
     (begin_writes space (codes "dec_unsigned") refl refl then λ _. fixed_writes 32 (omega arith)
     then λ _. last (at_most_writes (2 ^ 32 - 1) o (omega (arith, lt)) (omega (arith, lt))))
 
-label_tail_writes : (n : List ℕ) → IsName n → {room : Room} → Inside room label_tail (a_number 32 ∷ ref_marks (codes "lref") n ++ dec_unsigned_marks 32 0) n
+label_tail_writes : (n : List ℕ) → IsName n → {room : Room}
+    → Inside room label_tail (a_number 32 ∷ ref_marks (codes "lref") n ++ dec_unsigned_marks 32 0) n
 unfolding label_tail zero_offset
 label_tail_writes n w = fixed_writes 32 (omega arith) then λ _. reference_writes (codes "lref") n refl w
     then λ _. last (closed (begin_writes space (codes "dec_unsigned") refl refl then λ _. fixed_writes 32 (omega arith) then λ _. last (fixed_writes 0 (omega arith))))
 
-label_writes : (blank : ℕ) (n : List ℕ) → is_separator blank ≡ true → IsName n → {room : Room} → Plain room label (label_marks blank n) n
+label_writes : (blank : ℕ) (n : List ℕ) → is_separator blank ≡ true → IsName n → {room : Room}
+    → Plain room label (label_marks blank n) n
 unfolding label
 label_writes blank n b w = closed (begin_writes blank (codes "label") b refl then λ _. as_value (label_tail_writes n w))
 
-address_tail_writes : (a : List ℕ × ℕ) → AddressIsWritable a → {room : Room} → Inside room address_tail (a_number 32 ∷ ref_marks (codes "fref") a.0 ++ dec_unsigned_marks 32 a.1) a
+address_tail_writes : (a : List ℕ × ℕ) → AddressIsWritable a → {room : Room}
+    → Inside room address_tail (a_number 32 ∷ ref_marks (codes "fref") a.0 ++ dec_unsigned_marks 32 a.1) a
 unfolding address_tail
 address_tail_writes a w = fixed_writes 32 (omega arith) then λ _. reference_writes (codes "fref") a.0 refl w.name then λ _. last (offset_writes a.1 w.offset)
 
@@ -181,7 +192,8 @@ one_frame_writes : {room : Room} → Writes never [] one_frame.form [] (with_fra
 unfolding one_frame
 one_frame_writes {room = room} = record { prints = refl; reads = λ more free. rw (there 1 room.frames, rest 1 room.frames) refl }
 
-bits_writes : (b : ℕ) → 1 ≤ b → b % 8 ≡ 0 → b ≤ 8 * most_frame_bytes → {room : Room} → Writes never [] bits.form (a_number b ∷ []) (with_bytes (b / 8) room) room b
+bits_writes : (b : ℕ) → 1 ≤ b → b % 8 ≡ 0 → b ≤ 8 * most_frame_bytes → {room : Room}
+    → Writes never [] bits.form (a_number b ∷ []) (with_bytes (b / 8) room) room b
 unfolding bits between fits_frame more_bytes
 bits_writes b some whole small {room = room} =
     let fits : nat_le (b / 8) most_frame_bytes ≡ true = le-leb (b / 8) most_frame_bytes (omega (arith, small, whole)) in
@@ -197,7 +209,8 @@ need f room = with_frame (with_bytes (f.bits / 8) room)
 abbrev pub needs : List Allocation → Room → Room
 needs fs room = row_room need fs room
 
-frame_writes : (f : Allocation) → AllocationIsWritable f → (room : Room) → Writes never [] alloc.form (frame_marks f) (need f room) room f
+frame_writes : (f : Allocation) → AllocationIsWritable f → (room : Room)
+    → Writes never [] alloc.form (frame_marks f) (need f room) room f
 unfolding alloc
 frame_writes f w room =
     closed
@@ -216,7 +229,8 @@ size_writes : (s : ℕ) → IsSize s → {room : Room} → Plain room size (a_nu
 unfolding size
 size_writes s w = number_writes 1 64 1 s (omega (arith, w.1)) w.0 w.1 (omega arith)
 
-unsigned_writes : (s b : ℕ) → IsSize s → b < 2 ^ s → {room : Room} → Inside room unsigned (a_number s ∷ a_number b ∷ []) (record { signed = false; size = s; bits = b })
+unsigned_writes : (s b : ℕ) → IsSize s → b < 2 ^ s → {room : Room}
+    → Inside room unsigned (a_number s ∷ a_number b ∷ []) (record { signed = false; size = s; bits = b })
 unfolding unsigned size between at_most closing
 unsigned_writes s b w lt =
     let small : b < 2 ^ 64 = omega (arith, lt, low_power s w.1) in
@@ -225,11 +239,13 @@ unsigned_writes s b w lt =
       reads = λ more free. rw (own_digits 1 64 1 s (omega (arith, w.1)) w.0 w.1 (omega arith), decimal_within (2 ^ s - 1) b small (omega (arith, lt))) refl;
     }
 
-signed_writes : (s b : ℕ) → IsSize s → b < 2 ^ s → {room : Room} → Inside room signed (a_number s ∷ signed_marks s b) (record { signed = true; size = s; bits = b })
+signed_writes : (s b : ℕ) → IsSize s → b < 2 ^ s → {room : Room}
+    → Inside room signed (a_number s ∷ signed_marks s b) (record { signed = true; size = s; bits = b })
 unfolding signed size between minus begin opening word at_most signed_bits closing signed_marks
 signed_writes s b w lt {room = room} = by_sign (is_negative s b) refl
   where
-    by_sign : (negative : Bool) → is_negative s b ≡ negative → Inside room signed (a_number s ∷ signed_marks s b) (record { signed = true; size = s; bits = b })
+    by_sign : (negative : Bool) → is_negative s b ≡ negative
+        → Inside room signed (a_number s ∷ signed_marks s b) (record { signed = true; size = s; bits = b })
     by_sign true e =
         let is = below s b lt e in
         let half = half_power s w.0 in
@@ -263,7 +279,8 @@ unfolding init ref_place
 start_writes s w = closed (begin_writes line_feed (codes "init") refl refl
     then λ _. closed (begin_writes space (codes "ref") refl refl then λ _. name_writes s.name w.name then λ _. last (offset_writes s.offset w.offset)) then λ _. last (num_writes s.num w.num))
 
-starts_write : (ss : List InitialValue) → All InitialIsWritable ss → {room : Room} → Plain room inits (starts_marks ss) ss
+starts_write : (ss : List InitialValue) → All InitialIsWritable ss → {room : Room}
+    → Plain room inits (starts_marks ss) ss
 unfolding inits
 starts_write ss all = list_writes init (codes "inits") refl (same_row opens init start_marks (λ s w more room. refl) (λ s w room. start_writes s w) ss all)
 
@@ -285,7 +302,8 @@ unfolding further
 further_writes Select n w = number_writes 0 63 1 n (omega (arith, w)) (omega arith) w (omega arith)
 further_writes _ n w = number_writes 1 64 1 n (omega (arith, w.1)) w.0 w.1 (omega arith)
 
-furthers_write : (op : Op) (ns : List ℕ) (count : ℕ) → length ns ≡ count → All (IsFurther op) ns → {room : Room} → Writes never [] (exactly_form count (further op).form) (map a_number ns) room room ns
+furthers_write : (op : Op) (ns : List ℕ) (count : ℕ) → length ns ≡ count → All (IsFurther op) ns → {room : Room}
+    → Writes never [] (exactly_form count (further op).form) (map a_number ns) room room ns
 unfolding exactly_form
 furthers_write op [] zero e w = value_writes
 furthers_write op (n ∷ ns) (suc count) e w = further_writes op n (All-head (IsFurther op) n ns w) then λ _. as_value (furthers_write op ns count (omega arith) (All-tail (IsFurther op) n ns w))
@@ -308,7 +326,8 @@ same_terms : (ts : NamedExpressions) → expressions_of (list_of ts) ≡ ts
 same_terms Empty = refl
 same_terms (With t ts) = ap (With t) (same_terms ts)
 
-number_term_writes : (n : Num) (inner : Rule true NamedExpression) → NumIsWritable n → {room : Room} → Plain room (nested inner) (num_marks n) (Number n)
+number_term_writes : (n : Num) (inner : Rule true NamedExpression) → NumIsWritable n → {room : Room}
+    → Plain room (nested inner) (num_marks n) (Number n)
 unfolding nested expr_tail unsigned_term signed_term num_marks
 number_term_writes n inner w {room = room} = by_sign n.signed
   where
@@ -319,7 +338,8 @@ number_term_writes n inner w {room = room} = by_sign n.signed
 mutual
   unfolding expr nested expr_tail address_term load apply exactly_form
 
-  term_writes : (t : NamedExpression) (depth : ℕ) → depth_of t ≤ depth → PartsAreWritable t → {room : Room} → Plain room (expr depth) (term_marks t) t
+  term_writes : (t : NamedExpression) (depth : ℕ) → depth_of t ≤ depth → PartsAreWritable t → {room : Room}
+      → Plain room (expr depth) (term_marks t) t
   term_writes (Number n) zero d w = absurd (omega arith)
   term_writes _ zero d w = absurd (omega arith)
   term_writes (Number n) (suc depth) d w = number_term_writes n (expr depth) w
@@ -342,7 +362,8 @@ whole_writes : (t : NamedExpression) → ExpressionIsWritable t → {room : Room
 unfolding whole_expr
 whole_writes t w = term_writes t most_depth w.depth w.parts
 
-term_opens : (t : NamedExpression) (more : List Lexeme) (room : Room) → opens (place (tokens printing more (term_marks t)) room) ≡ true
+term_opens : (t : NamedExpression) (more : List Lexeme) (room : Room)
+    → opens (place (tokens printing more (term_marks t)) room) ≡ true
 unfolding num_marks
 term_opens (Number n) more room = by_test n.signed (λ e. rw e refl) (λ e. rw e refl)
 term_opens _ more room = refl
@@ -385,14 +406,16 @@ unfolding item item_tail label_item
 item_writes (Label n) w = closed (worded item_tail line_feed (codes "label") refl refl (λ left. as_value (label_tail_writes n w)))
 item_writes (Do a) w = act_writes a w
 
-item_opens : (x : BodyItem) (more : List Lexeme) (room : Room) → opens (place (tokens printing more (entry_marks x)) room) ≡ true
+item_opens : (x : BodyItem) (more : List Lexeme) (room : Room)
+    → opens (place (tokens printing more (entry_marks x)) room) ≡ true
 item_opens (Label n) more room = refl
 item_opens (Do Null) more room = refl
 item_opens (Do _) more room = refl
 
 -- ---- functions
 
-stmts_write : (xs : List BodyItem) → All ItemIsWritable xs → ends_well xs ≡ true → {room : Room} → Plain room stmts (listed (codes "stmts") entry_marks xs) xs
+stmts_write : (xs : List BodyItem) → All ItemIsWritable xs → ends_well xs ≡ true → {room : Room}
+    → Plain room stmts (listed (codes "stmts") entry_marks xs) xs
 unfolding stmts closing_after
 stmts_write xs all good = closed (begin_writes space (codes "stmts") refl refl
     then λ _. ends {f = λ xs. xs} (λ xs. bound (closing_after xs).form (λ _. made xs))
@@ -411,12 +434,14 @@ func_needs f room = with_function (needs f.args (needs f.decls room))
 abbrev pub all_need : List Function → Room → Room
 all_need fs room = row_room func_needs fs room
 
-function_writes : (f : Function) → FunctionIsWritable f → (room : Room) → Writes never [] function.form (function_marks f) (func_needs f room) room f
+function_writes : (f : Function) → FunctionIsWritable f → (room : Room)
+    → Writes never [] function.form (function_marks f) (func_needs f room) room f
 unfolding function function_tail arg_decls
 function_writes f w room = closed (opening_writes line_feed refl then λ _. one_function_writes {room = needs f.args (needs f.decls room)} then λ _. word_writes (codes "func") refl
     then λ _. as_value (label_writes space f.name refl w.name then λ _. frames_write (codes "arg_decls") f.args refl w.args then λ _. last (scope_writes f w)))
 
-functions_write : (fs : List Function) → All FunctionIsWritable fs → {room : Room} → Writes never [] functions.form (listed (codes "funcs") function_marks fs) (all_need fs room) room fs
+functions_write : (fs : List Function) → All FunctionIsWritable fs → {room : Room}
+    → Writes never [] functions.form (listed (codes "funcs") function_marks fs) (all_need fs room) room fs
 unfolding functions
 functions_write fs all {room = room} = list_writes function (codes "funcs") refl (row_writes opens function function_marks func_needs (λ f w more room. refl) function_writes fs all room)
 
@@ -429,7 +454,8 @@ heading_writes = record {
   reads = λ more free. rw (own_digits 8 8 1 8 (omega arith) (omega arith) (omega arith) (omega arith)) refl;
 }
 
-exports_write : (frames labels : List (List ℕ)) → All IsName frames → All IsName labels → {room : Room} → Plain room exports (names_marks (codes "exports") frames labels) (frames, labels)
+exports_write : (frames labels : List (List ℕ)) → All IsName frames → All IsName labels → {room : Room}
+    → Plain room exports (names_marks (codes "exports") frames labels) (frames, labels)
 unfolding exports
 exports_write frames labels f l = closed (begin_writes space (codes "exports") refl refl then λ _. references_write (codes "frefs") (codes "fref") frames refl refl f
     then λ _. last (references_write (codes "lrefs") (codes "lref") labels refl refl l))

@@ -1,4 +1,5 @@
--- The grammar of items, functions and programs, rule by rule, over that of expressions of `alf_reader`. Each rule is exact by its type.
+-- The grammar of items, functions and programs, rule by rule, over that of expressions of `alf_reader`. Each rule is
+-- exact by its type.
 use Rattle.std.specs.Prelude.{ℕ, List, Bool, true, Result, Err, if◌then◌else◌, codes}
 use Rattle.grammar.specs.Rule.{value, ◌>>=◌, ◌>>◌, many, maybe}
 use Rattle.alf_tokens.specs.declared.token.Kind.TheVariants as kinds
@@ -172,7 +173,8 @@ functions = do
 
 -- ---- programs
 
--- the brace after a list that the profile keeps empty; an item in it is outside the profile, and the word of the list stands for it
+-- the brace after a list that the profile keeps empty; an item in it is outside the profile, and the word of the list
+-- stands for it
 abbrev pub fits_empty : List ℕ → Lexeme → Result (Unit {0}) Fault
 fits_empty list t = if is_kind kinds.Open t.kind then Err (OutOfProfile t.left list) else fits kinds.Close t
 
@@ -226,7 +228,8 @@ imports = do
   closing
   value tt
 
--- PROGRAM = { alf { macro_defs } { least_addr_unit 8 } little_endian { exports .. } { imports .. } { decls ALLOC* } { inits INIT* } { funcs FUNC* } }
+-- PROGRAM = { alf { macro_defs } { least_addr_unit 8 } little_endian { exports .. } { imports .. } { decls ALLOC* } {
+-- inits INIT* } { funcs FUNC* } }
 unfoldable pub program : Rule true WholeProgram
 program = do
   begin (codes "alf")

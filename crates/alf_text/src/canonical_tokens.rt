@@ -3,7 +3,8 @@
 ghost use Rattle.std.specs.Prelude.{◌≡◌, ◌≤◌, ◌<◌, ◌^◌, ◌∷◌, [], OnOk, true, false};
 ghost use Rattle.alf_text.specs.Printing.{put, all_put};
 ghost use Rattle.alf_ops.specs.TwosComplement.{is_negative};
-ghost use Rattle.alf_text.specs.Canonical.{opens, closes, a_word, a_number, a_name, ref_marks, label_marks, address_marks};
+ghost use Rattle.alf_text.specs.Canonical.{opens, closes, a_word, a_number, a_name, ref_marks, label_marks};
+ghost use Rattle.alf_text.specs.Canonical.{address_marks};
 ghost use Rattle.alf_text.specs.Canonical.{signed_marks, dec_signed_marks, dec_unsigned_marks, num_marks};
 
 use alf_ops::{distance, is_negative};

@@ -60,7 +60,8 @@ fn stmts<'a>(reader: &mut Reader<'a>) -> Result<Vec<Item>, Departure<'a>>
 
 #[tactic(auto, unfolding(crate::specs::Grammar::scope))]
 fn scope<'a>(reader: &mut Reader<'a>) -> Result<(Vec<Alloc>, Vec<Init>, Vec<Item>), Departure<'a>>
-    ensures { Reads scope (λ x. (map allocation_of x.0.items, map initial_of x.1.items, map item_of x.2.items)) result reader.old reader.new }
+    ensures { Reads scope (λ x. (map allocation_of x.0.items, map initial_of x.1.items, map item_of x.2.items)) result
+        reader.old reader.new }
 {
     reader.begin(b"scope")?;
     let decls = reader.allocs(b"decls")?;

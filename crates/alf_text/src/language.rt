@@ -29,7 +29,8 @@ const LIMITS: Counts = Counts {
 pub fn read(alloc: Global, bytes: &[u8]) -> Result<Program, TextFault>
     // A text means one thing (`one_meaning`), and this is it.
     ensures spelled { IfOk result (λ program. Means bytes.now (Ok (program_of program))) }
-    ensures departs { IfErr result (λ fault. IfSome (departure_of fault) (λ departure. Means bytes.now (Err departure))) }
+    ensures departs { IfErr result
+        (λ fault. IfSome (departure_of fault) (λ departure. Means bytes.now (Err departure))) }
     // The condition of the checks.
     ensures writable { IfOk result (λ program. IsWritable (program_of program)) }
 {
@@ -48,7 +49,8 @@ pub fn one_meaning()
 
 // The departure with its place in the text.
 fn told(alloc: Global, bytes: &[u8], departure: Departure<'_>) -> TextFault
-    ensures { IfSome (departure_of result) (λ told. IsSomeAnd (fault_of departure.entry) (λ fault. told ≡ placed bytes.now fault)) }
+    ensures { IfSome (departure_of result)
+        (λ told. IsSomeAnd (fault_of departure.entry) (λ fault. told ≡ placed bytes.now fault)) }
 {
     match departure {
         Departure::Syntax(left) => TextFault::Syntax(place_of(bytes, left)),

@@ -4,8 +4,14 @@ ghost use Rattle.std.specs.Prelude.{◌≡◌, map, OnOk, IfOk, codes};
 ghost use Rattle.std.specs.List.{flat_map};
 ghost use Rattle.std.specs.Option.{option_map};
 ghost use Rattle.alf_text.specs.Printing.{all_put};
-ghost use Rattle.alf_program.specs.Tree.{expression_of, expressions_of, statement_of, item_of, allocation_of, initial_of, function_of, program_of, Load, Apply, Null, Store, Jump, Switch, Call, Return};
-ghost use Rattle.alf_text.specs.Canonical.{a_number, listed, if_any, address_marks, term_marks, target_marks, default_marks, act_marks, entry_marks, frame_marks, place_marks, start_marks, starts_marks, scope_marks, function_marks, refs_marks, names_marks, unit_marks, head_marks, globals_marks, parts_marks, body_marks, canonical_text};
+ghost use Rattle.alf_program.specs.Tree.{expression_of, expressions_of, statement_of, item_of, allocation_of};
+ghost use Rattle.alf_program.specs.Tree.{initial_of, function_of, program_of, Load, Apply, Null, Store, Jump, Switch};
+ghost use Rattle.alf_program.specs.Tree.{Call, Return};
+ghost use Rattle.alf_text.specs.Canonical.{a_number, listed, if_any, address_marks, term_marks, target_marks};
+ghost use Rattle.alf_text.specs.Canonical.{default_marks, act_marks, entry_marks, frame_marks, place_marks};
+ghost use Rattle.alf_text.specs.Canonical.{start_marks, starts_marks, scope_marks, function_marks, refs_marks};
+ghost use Rattle.alf_text.specs.Canonical.{names_marks, unit_marks, head_marks, globals_marks, parts_marks, body_marks};
+ghost use Rattle.alf_text.specs.Canonical.{canonical_text};
 
 use crate::canonical_tokens::{
     close, open, put_address, put_dec_unsigned, put_label, put_name, put_num, put_number, put_ref,
@@ -44,7 +50,9 @@ fn put_load(out: &mut Vec<u8>, size: u32, at: &Expr) -> Result<(), AllocError>
 #[cycle(put_expr)]
 #[tactic(auto, using(crate::proofs::TextPrinting::printing))]
 fn put_apply(out: &mut Vec<u8>, op: Op, sizes: &[u32], operands: &[Expr]) -> Result<(), AllocError>
-    ensures { OnOk result (out.new.items ≡ all_put out.old.items (term_marks (Apply op sizes.now (expressions_of (map expression_of operands.now))))) }
+    ensures { OnOk result
+        (out.new.items
+        ≡ all_put out.old.items (term_marks (Apply op sizes.now (expressions_of (map expression_of operands.now))))) }
 {
     open(out, b' ', spelling(op).as_bytes())?;
     put_sizes(out, sizes)?;
@@ -94,7 +102,8 @@ fn put_targets(out: &mut Vec<u8>, targets: &[(Num, Name)]) -> Result<(), AllocEr
 }
 
 fn put_store(out: &mut Vec<u8>, at: &Expr, value: &Expr) -> Result<(), AllocError>
-    ensures { OnOk result (out.new.items ≡ all_put out.old.items (act_marks (Store (expression_of at.now) (expression_of value.now)))) }
+    ensures { OnOk result
+        (out.new.items ≡ all_put out.old.items (act_marks (Store (expression_of at.now) (expression_of value.now)))) }
 {
     open(out, b'\n', b"store")?;
     put_expr(out, at)?;
@@ -130,7 +139,8 @@ fn put_switch(
     targets: &[(Num, Name)],
     others: &Name,
 ) -> Result<(), AllocError>
-    ensures { OnOk result (out.new.items ≡ all_put out.old.items (act_marks (Switch (expression_of value.now) targets.now others.now))) }
+    ensures { OnOk result
+        (out.new.items ≡ all_put out.old.items (act_marks (Switch (expression_of value.now) targets.now others.now))) }
 {
     open(out, b'\n', b"switch")?;
     put_expr(out, value)?;
@@ -155,7 +165,9 @@ fn put_call(
     args: &[Expr],
     result_at: &Option<(Name, u32)>,
 ) -> Result<(), AllocError>
-    ensures { OnOk result (out.new.items ≡ all_put out.old.items (act_marks (Call label.now (map expression_of args.now) result_at.now))) }
+    ensures { OnOk result
+        (out.new.items
+        ≡ all_put out.old.items (act_marks (Call label.now (map expression_of args.now) result_at.now))) }
 {
     open(out, b'\n', b"call")?;
     put_label(out, b' ', label)?;
@@ -167,7 +179,8 @@ fn put_call(
 }
 
 fn put_value(out: &mut Vec<u8>, value: &Option<Expr>) -> Result<(), AllocError>
-    ensures { OnOk result (out.new.items ≡ all_put out.old.items (if_any term_marks (option_map expression_of value.now))) }
+    ensures { OnOk result
+        (out.new.items ≡ all_put out.old.items (if_any term_marks (option_map expression_of value.now))) }
 {
     match value {
         Some(expr) => put_expr(out, expr),
@@ -176,7 +189,8 @@ fn put_value(out: &mut Vec<u8>, value: &Option<Expr>) -> Result<(), AllocError>
 }
 
 fn put_return(out: &mut Vec<u8>, value: &Option<Expr>) -> Result<(), AllocError>
-    ensures { OnOk result (out.new.items ≡ all_put out.old.items (act_marks (Return (option_map expression_of value.now)))) }
+    ensures { OnOk result
+        (out.new.items ≡ all_put out.old.items (act_marks (Return (option_map expression_of value.now)))) }
 {
     open(out, b'\n', b"return")?;
     put_value(out, value)?;
@@ -215,7 +229,8 @@ fn put_item(out: &mut Vec<u8>, item: &Item) -> Result<(), AllocError>
 }
 
 fn put_items(out: &mut Vec<u8>, items: &[Item]) -> Result<(), AllocError>
-    ensures { OnOk result (out.new.items ≡ all_put out.old.items (listed (codes "stmts") entry_marks (map item_of items.now))) }
+    ensures { OnOk result
+        (out.new.items ≡ all_put out.old.items (listed (codes "stmts") entry_marks (map item_of items.now))) }
 {
     open(out, b' ', b"stmts")?;
     for item in items {
@@ -239,7 +254,8 @@ fn put_alloc(out: &mut Vec<u8>, alloc: &Alloc) -> Result<(), AllocError>
 }
 
 fn put_allocs(out: &mut Vec<u8>, word: &[u8], allocs: &[Alloc]) -> Result<(), AllocError>
-    ensures { OnOk result (out.new.items ≡ all_put out.old.items (listed word.now frame_marks (map allocation_of allocs.now))) }
+    ensures { OnOk result
+        (out.new.items ≡ all_put out.old.items (listed word.now frame_marks (map allocation_of allocs.now))) }
 {
     open(out, b' ', word)?;
     for alloc in allocs {
@@ -281,7 +297,8 @@ fn put_inits(out: &mut Vec<u8>, inits: &[Init]) -> Result<(), AllocError>
 }
 
 fn put_scope(out: &mut Vec<u8>, func: &Func) -> Result<(), AllocError>
-    ensures { OnOk result (out.new.items ≡ all_put out.old.items (let f = function_of func.now in scope_marks f.decls f.inits f.items)) }
+    ensures { OnOk result
+        (out.new.items ≡ all_put out.old.items (let f = function_of func.now in scope_marks f.decls f.inits f.items)) }
 {
     open(out, b' ', b"scope")?;
     put_allocs(out, b"decls", &func.decls)?;
@@ -303,7 +320,8 @@ fn put_func(out: &mut Vec<u8>, func: &Func) -> Result<(), AllocError>
 }
 
 fn put_funcs(out: &mut Vec<u8>, funcs: &[Func]) -> Result<(), AllocError>
-    ensures { OnOk result (out.new.items ≡ all_put out.old.items (listed (codes "funcs") function_marks (map function_of funcs.now))) }
+    ensures { OnOk result
+        (out.new.items ≡ all_put out.old.items (listed (codes "funcs") function_marks (map function_of funcs.now))) }
 {
     open(out, b' ', b"funcs")?;
     for func in funcs {

@@ -2,7 +2,8 @@
 
 ghost use Rattle.alf_program.specs.Tree.{program_of};
 ghost use Rattle.alf_reader.specs.Reading.{Reads};
-ghost use Rattle.alf_text.specs.Grammar.{closing_empty, empty, addr_unit, macro_defs, little_endian, heading, exports, imports, program};
+ghost use Rattle.alf_text.specs.Grammar.{closing_empty, empty, addr_unit, macro_defs, little_endian, heading, exports};
+ghost use Rattle.alf_text.specs.Grammar.{imports, program};
 
 use crate::functions::functions;
 use alf_program::Program;

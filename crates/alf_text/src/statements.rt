@@ -3,7 +3,8 @@
 ghost use Rattle.grammar.specs.Rule.{many};
 ghost use Rattle.alf_program.specs.Tree.{item_of};
 ghost use Rattle.alf_reader.specs.Reading.{Reads};
-ghost use Rattle.alf_text.specs.Grammar.{opens_target, target, default_arm, switch, with_word, store, label_item, null, leaving, jump, result_word, call, returns, item_tail, item};
+ghost use Rattle.alf_text.specs.Grammar.{opens_target, target, default_arm, switch, with_word, store, label_item, null};
+ghost use Rattle.alf_text.specs.Grammar.{leaving, jump, result_word, call, returns, item_tail, item};
 
 use crate::sequences::Targets;
 use alf_program::{Item, Num, Stmt};

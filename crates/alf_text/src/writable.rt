@@ -13,7 +13,8 @@ use alf_tokens::printed_texts_are_cut;
 pub fn writable_programs_are_spelled()
     ensures exactly { (whole : WholeProgram) → IsSpelled whole ↔ IsWritable whole }
     ensures canonical { (whole : WholeProgram) → IsWritable whole → SpellsProgram (canonical_text whole) whole }
-    ensures alone { (whole other : WholeProgram) → IsWritable whole → SpellsProgram (canonical_text whole) other → other ≡ whole }
+    ensures alone { (whole other : WholeProgram) → IsWritable whole → SpellsProgram (canonical_text whole) other
+        → other ≡ whole }
 {
     printed_texts_are_cut();
 }

@@ -42,7 +42,8 @@ closes_long (b ∷ []) e = absurd (not_false (b == 42) e)
     not_false false e = cc
 closes_long (b ∷ c ∷ bs) e = omega arith
 
-close_first : (b : ℕ) (bs : List ℕ) (k : ℕ) (t : Bool) → closes (b ∷ bs) ≡ t → cond t (Some 2) (one_more (to_close bs)) ≡ Some k
+close_first : (b : ℕ) (bs : List ℕ) (k : ℕ) (t : Bool) → closes (b ∷ bs) ≡ t
+    → cond t (Some 2) (one_more (to_close bs)) ≡ Some k
     → ((j : ℕ) → to_close bs ≡ Some j → j ≤ length bs) → k ≤ suc (length bs)
 close_first b bs k true c e h = let g : 2 ≡ k = cc in omega (arith, closes_long (b ∷ bs) c)
 close_first b bs k false c e h = close_more (to_close bs) k (length bs) e h
@@ -65,12 +66,14 @@ run_passes : (passes : ℕ → Bool) (xs : List ℕ) → list_all passes (take (
 run_passes passes [] = refl
 run_passes passes (x ∷ xs) = by_byte (run_passes passes xs) (passes x) refl
   where
-    by_byte : list_all passes (take (prefix_len passes xs) xs) ≡ true → (t : Bool) → passes x ≡ t → list_all passes (take (cond t (1 + prefix_len passes xs) 0) (x ∷ xs)) ≡ true
+    by_byte : list_all passes (take (prefix_len passes xs) xs) ≡ true → (t : Bool) → passes x ≡ t
+        → list_all passes (take (cond t (1 + prefix_len passes xs) 0) (x ∷ xs)) ≡ true
     by_byte more true e = let k : 1 + prefix_len passes xs ≡ suc (prefix_len passes xs) = omega arith in rw (k, e) more
     by_byte more false e = refl
 
 -- the bytes between the quotes
-name_inside : (q : ℕ) (xs : List ℕ) (l : ℕ) → l + 2 ≤ length (q ∷ xs) → drop 1 (take (length (take (l + 2) (q ∷ xs)) - 1) (take (l + 2) (q ∷ xs))) ≡ take l xs
+name_inside : (q : ℕ) (xs : List ℕ) (l : ℕ) → l + 2 ≤ length (q ∷ xs)
+    → drop 1 (take (length (take (l + 2) (q ∷ xs)) - 1) (take (l + 2) (q ∷ xs))) ≡ take l xs
 name_inside q xs l le =
     let a : l + 2 ≡ suc (suc l) = omega arith in
     let k : length (take (l + 2) (q ∷ xs)) - 1 ≡ suc l = omega (arith, length-take-le (l + 2) (q ∷ xs) le) in
@@ -85,7 +88,9 @@ pub record IsCut (p : Kind × ℕ) (bytes : List ℕ) : Type 0 where
   pub named : is_named_well (lexeme_of p bytes) ≡ true
   pub whole : bytes_of p.0 (text_of p.0 (take p.1 bytes)) ≡ take p.1 bytes
 
-one_byte : (kind : Kind) (b : ℕ) (bs : List ℕ) → (kind ≡ kinds.Quoted → ⊥) → is_named_well (lexeme_of (kind, 1) (b ∷ bs)) ≡ true → bytes_of kind (text_of kind (b ∷ [])) ≡ b ∷ [] → IsCut (kind, 1) (b ∷ bs)
+one_byte : (kind : Kind) (b : ℕ) (bs : List ℕ) → (kind ≡ kinds.Quoted → ⊥)
+    → is_named_well (lexeme_of (kind, 1) (b ∷ bs)) ≡ true → bytes_of kind (text_of kind (b ∷ [])) ≡ b ∷ []
+    → IsCut (kind, 1) (b ∷ bs)
 one_byte kind b bs other named whole = record { takes = omega arith; fits = omega arith; quotes = λ e. absurd (other e); named = named; whole = whole }
 
 all_bytes : (b : ℕ) (bs : List ℕ) → IsCut (kinds.Broken, length (b ∷ bs)) (b ∷ bs)
@@ -124,7 +129,8 @@ comment_cut : (b : ℕ) (bs : List ℕ) → IsCut (comment_piece bs (length (b �
 comment_cut b bs = by_test (λ p. IsCut p (b ∷ bs)) (begins_with 42 bs) (closed_piece (to_close (drop 1 bs)) (length (b ∷ bs))) (kinds.Broken, length (b ∷ bs))
     (λ h. at_close (to_close (drop 1 bs)) refl h) (λ _. all_bytes b bs)
   where
-    at_close : (o : Option ℕ) → to_close (drop 1 bs) ≡ o → begins_with 42 bs ≡ true → IsCut (closed_piece o (length (b ∷ bs))) (b ∷ bs)
+    at_close : (o : Option ℕ) → to_close (drop 1 bs) ≡ o → begins_with 42 bs ≡ true
+        → IsCut (closed_piece o (length (b ∷ bs))) (b ∷ bs)
     at_close None e h = all_bytes b bs
     at_close (Some n) e h = record {
       takes = omega arith;
@@ -138,7 +144,8 @@ comment_cut b bs = by_test (λ p. IsCut p (b ∷ bs)) (begins_with 42 bs) (close
 run_some : (passes : ℕ → Bool) (b : ℕ) (bs : List ℕ) → passes b ≡ true → 0 < prefix_len passes (b ∷ bs)
 run_some passes b bs h = rw h (omega arith)
 
-number_cut : (b : ℕ) (bs : List ℕ) → is_ascii_digit b ≡ true → IsCut (number_piece (prefix_len is_ascii_digit (b ∷ bs))) (b ∷ bs)
+number_cut : (b : ℕ) (bs : List ℕ) → is_ascii_digit b ≡ true
+    → IsCut (number_piece (prefix_len is_ascii_digit (b ∷ bs))) (b ∷ bs)
 number_cut b bs h =
     let n = prefix_len is_ascii_digit (b ∷ bs) in
     let some = run_some is_ascii_digit b bs h in
@@ -146,7 +153,8 @@ number_cut b bs h =
     by_test (λ p. IsCut p (b ∷ bs)) (leb n 20) (kinds.Number, n) (kinds.Long, n) (λ _. record { takes = some; fits = fits; quotes = λ e. absurd cc; named = refl; whole = refl })
     (λ _. record { takes = some; fits = fits; quotes = λ e. absurd cc; named = refl; whole = refl })
 
-word_cut : (b : ℕ) (bs : List ℕ) → is_ascii_alphabetic b ≡ true → IsCut (kinds.Word, prefix_len is_word_byte (b ∷ bs)) (b ∷ bs)
+word_cut : (b : ℕ) (bs : List ℕ) → is_ascii_alphabetic b ≡ true
+    → IsCut (kinds.Word, prefix_len is_word_byte (b ∷ bs)) (b ∷ bs)
 word_cut b bs h =
     let w : is_word_byte b ≡ true = rw h refl in
     record { takes = run_some is_word_byte b bs w; fits = prefix_len-le-length is_word_byte (b ∷ bs); quotes = λ e. absurd cc; named = refl; whole = refl }
@@ -165,11 +173,13 @@ piece_cut numbered b bs =
 
 -- ---- whole texts
 
-rest_fits : (n : ℕ) (p : Kind × ℕ) (b : ℕ) (bs : List ℕ) → IsCut p (b ∷ bs) → length (b ∷ bs) ≤ suc n → length (drop p.1 (b ∷ bs)) ≤ n
+rest_fits : (n : ℕ) (p : Kind × ℕ) (b : ℕ) (bs : List ℕ) → IsCut p (b ∷ bs) → length (b ∷ bs) ≤ suc n
+    → length (drop p.1 (b ∷ bs)) ≤ n
 rest_fits n p b bs h le = omega (arith, length-drop p.1 (b ∷ bs), h.takes)
 
 -- enough turns give all pieces
-cut_enough : (n m : ℕ) (numbered : Bool) (bytes : List ℕ) → length bytes ≤ n → length bytes ≤ m → cut n numbered bytes ≡ cut m numbered bytes
+cut_enough : (n m : ℕ) (numbered : Bool) (bytes : List ℕ) → length bytes ≤ n → length bytes ≤ m
+    → cut n numbered bytes ≡ cut m numbered bytes
 cut_enough zero zero numbered bytes ln lm = refl
 cut_enough zero (suc m) numbered [] ln lm = refl
 cut_enough (suc n) zero numbered [] ln lm = refl
@@ -187,7 +197,8 @@ split_again (suc n) [] = refl
 split_again (suc n) (x ∷ xs) = ap (λ (ys : List ℕ). x ∷ ys) (split_again n xs)
 
 -- the pieces in a row are the bytes
-in_a_row : (n : ℕ) (numbered : Bool) (bytes : List ℕ) → length bytes ≤ n → flat_map piece_bytes (cut n numbered bytes) ≡ bytes
+in_a_row : (n : ℕ) (numbered : Bool) (bytes : List ℕ) → length bytes ≤ n
+    → flat_map piece_bytes (cut n numbered bytes) ≡ bytes
 in_a_row zero numbered [] le = refl
 in_a_row zero numbered (b ∷ bs) le = absurd (omega arith)
 in_a_row (suc n) numbered [] le = refl
@@ -230,13 +241,15 @@ module _ (numbered : Bool) (p : Kind × ℕ) (rest : List ℕ) (is : p ≡ piece
       at_rest [] some = absurd (omega arith)
       at_rest (b ∷ bs) some = piece_cut numbered b bs
 
-  pub taken : (bytes : List ℕ) (t : Lexeme) → bytes ≡ take p.1 rest → t ≡ record { kind = p.0; text = text_of p.0 bytes; left = length rest }
+  pub taken : (bytes : List ℕ) (t : Lexeme) → bytes ≡ take p.1 rest
+      → t ≡ record { kind = p.0; text = text_of p.0 bytes; left = length rest }
       → tokens_from numbered rest ≡ shown t ++ tokens_from (is_numeral p.0) (drop p.1 rest)
   taken bytes t first token =
       let t_is : lexeme_of p rest ≡ t = sym (token ∙ ap (λ (bs : List ℕ). record { kind = p.0; text = text_of p.0 bs; left = length rest }) first) in
       at_rest rest some (sym is) ∙ ap (λ (u : Lexeme). shown u ++ tokens_from (is_numeral p.0) (drop p.1 rest)) t_is
     where
-      at_rest : (rest : List ℕ) → 0 < length rest → piece numbered rest ≡ p → tokens_from numbered rest ≡ shown (lexeme_of p rest) ++ tokens_from (is_numeral p.0) (drop p.1 rest)
+      at_rest : (rest : List ℕ) → 0 < length rest → piece numbered rest ≡ p
+          → tokens_from numbered rest ≡ shown (lexeme_of p rest) ++ tokens_from (is_numeral p.0) (drop p.1 rest)
       at_rest [] some e = absurd (omega arith)
       at_rest (b ∷ bs) some e = tokens_step numbered b bs p e
 

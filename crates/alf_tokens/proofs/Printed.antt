@@ -27,14 +27,16 @@ separator_is : (P : ℕ → Type 0) (b : ℕ) → is_separator b ≡ true → P 
 separator_is P b h p q = by_separator P b p q (b == 32) (b == 10) refl refl h
 
 -- a run of bytes ends where it stops
-run_stops : (passes : ℕ → Bool) (text : List ℕ) (b : ℕ) (rest : List ℕ) → list_all passes text ≡ true → passes b ≡ false → prefix_len passes (text ++ b ∷ rest) ≡ length text
+run_stops : (passes : ℕ → Bool) (text : List ℕ) (b : ℕ) (rest : List ℕ) → list_all passes text ≡ true → passes b ≡ false
+    → prefix_len passes (text ++ b ∷ rest) ≡ length text
 run_stops passes [] b rest all stop = rw stop refl
 run_stops passes (c ∷ cs) b rest all stop = rw (and_left (passes c) (list_all passes cs) all, run_stops passes cs b rest (and_right (passes c) (list_all passes cs) all) stop) (omega arith)
 
 in_range : (lo hi b : ℕ) → is_in_range lo hi b ≡ true → (lo ≤ b) × (b ≤ hi)
 in_range lo hi b h = (leb-true _ _ (and_left (leb lo b) (leb b hi) h), leb-true _ _ (and_right (leb lo b) (leb b hi) h))
 
-letter_within : (b : ℕ) (t u : Bool) → is_in_range 65 90 b ≡ t → is_in_range 97 122 b ≡ u → t || u ≡ true → (65 ≤ b) × (b ≤ 122)
+letter_within : (b : ℕ) (t u : Bool) → is_in_range 65 90 b ≡ t → is_in_range 97 122 b ≡ u → t || u ≡ true
+    → (65 ≤ b) × (b ≤ 122)
 letter_within b true u e f h = omega (arith, in_range 65 90 b e)
 letter_within b false true e f h = omega (arith, in_range 97 122 b f)
 letter_within b false false e f h = absurd cc
@@ -63,7 +65,8 @@ letter_no_digit b h = let l : leb b 57 ≡ false = grind arith in let m : leb 48
 -- a token is cut as it was printed, where a separator stands after it
 record IsShown (kind : Kind) (text : List ℕ) : Type 0 where
   some : (b : ℕ) × (bs : List ℕ) × (bytes_of kind text ≡ b ∷ bs)
-  cut : (b : ℕ) (rest : List ℕ) → is_separator b ≡ true → piece false (bytes_of kind text ++ b ∷ rest) ≡ (kind, length (bytes_of kind text))
+  cut : (b : ℕ) (rest : List ℕ) → is_separator b ≡ true
+      → piece false (bytes_of kind text ++ b ∷ rest) ≡ (kind, length (bytes_of kind text))
   shows : text_of kind (bytes_of kind text) ≡ text
   seen : is_kind kinds.White kind ≡ false
 
@@ -83,7 +86,8 @@ word_shown (c ∷ cs) h = record { some = (c, cs, refl); cut = cut_at; shows = r
     letter : is_ascii_alphabetic c ≡ true
     letter = and_left (is_ascii_alphabetic c) (list_all is_word_byte cs) h
 
-    cut_at : (b : ℕ) (rest : List ℕ) → is_separator b ≡ true → piece false (c ∷ (cs ++ b ∷ rest)) ≡ (kinds.Word, length (c ∷ cs))
+    cut_at : (b : ℕ) (rest : List ℕ) → is_separator b ≡ true
+        → piece false (c ∷ (cs ++ b ∷ rest)) ≡ (kinds.Word, length (c ∷ cs))
     cut_at b rest e =
         let stop : is_word_byte b ≡ false = separator_is (λ (b : ℕ). is_word_byte b ≡ false) b e refl refl in
         let run = run_stops is_word_byte cs b rest (and_right (is_ascii_alphabetic c) (list_all is_word_byte cs) h) stop in
@@ -102,7 +106,8 @@ number_shown (c ∷ cs) h = record { some = (c, cs, refl); cut = cut_at; shows =
     short : leb (length (c ∷ cs)) 20 ≡ true
     short = and_right (ltb 0 (length (c ∷ cs))) _ (and_left _ (list_all is_ascii_digit (c ∷ cs)) h)
 
-    cut_at : (b : ℕ) (rest : List ℕ) → is_separator b ≡ true → piece false ((c ∷ cs) ++ b ∷ rest) ≡ (kinds.Number, length (c ∷ cs))
+    cut_at : (b : ℕ) (rest : List ℕ) → is_separator b ≡ true
+        → piece false ((c ∷ cs) ++ b ∷ rest) ≡ (kinds.Number, length (c ∷ cs))
     cut_at b rest e =
         let stop : is_ascii_digit b ≡ false = separator_is (λ (b : ℕ). is_ascii_digit b ≡ false) b e refl refl in
         let run : prefix_len is_ascii_digit ((c ∷ cs) ++ b ∷ rest) ≡ length (c ∷ cs) = run_stops is_ascii_digit (c ∷ cs) b rest all stop in
@@ -120,7 +125,8 @@ name_shown name h = record { some = (34, name ++ 34 ∷ [], refl); cut = λ b re
         let k : length (34 ∷ (name ++ 34 ∷ [])) - 1 ≡ suc (length name) = omega (arith, length-append name (34 ∷ [])) in
         rw k (take_at name (34 ∷ []) (length name) refl)
 
-    cut_at : (b : ℕ) (rest : List ℕ) → piece false (34 ∷ (name ++ 34 ∷ []) ++ b ∷ rest) ≡ (kinds.Quoted, length (34 ∷ (name ++ 34 ∷ [])))
+    cut_at : (b : ℕ) (rest : List ℕ)
+        → piece false (34 ∷ (name ++ 34 ∷ []) ++ b ∷ rest) ≡ (kinds.Quoted, length (34 ∷ (name ++ 34 ∷ [])))
     cut_at b rest =
         let g : (name ++ 34 ∷ []) ++ b ∷ rest ≡ name ++ 34 ∷ b ∷ rest = append_assoc name (34 ∷ []) (b ∷ rest) in
         let few = and_left (ltb 0 (length name) && leb (length name) 64) (list_all is_name_byte name) h in
@@ -143,18 +149,21 @@ token_shown kinds.Broken text h = absurd cc
 
 -- ---- texts
 
-piece_white : (numbered : Bool) (b : ℕ) (rest : List ℕ) → is_separator b ≡ true → piece numbered (b ∷ rest) ≡ (kinds.White, 1)
+piece_white : (numbered : Bool) (b : ℕ) (rest : List ℕ) → is_separator b ≡ true
+    → piece numbered (b ∷ rest) ≡ (kinds.White, 1)
 unfolding piece
 piece_white numbered b rest e = separator_is (λ (b : ℕ). piece numbered (b ∷ rest) ≡ (kinds.White, 1)) b e refl refl
 
-separator_first : (numbered : Bool) (b : ℕ) (rest : List ℕ) → is_separator b ≡ true → tokens_from numbered (b ∷ rest) ≡ tokens_from false rest
+separator_first : (numbered : Bool) (b : ℕ) (rest : List ℕ) → is_separator b ≡ true
+    → tokens_from numbered (b ∷ rest) ≡ tokens_from false rest
 separator_first numbered b rest e = tokens_step numbered b rest (kinds.White, 1) (piece_white numbered b rest e)
 
 token_first : (kind : Kind) (text : List ℕ) (b : ℕ) (rest : List ℕ) → IsShown kind text → is_separator b ≡ true
     → tokens_from false (bytes_of kind text ++ b ∷ rest) ≡ record { kind = kind; text = text; left = length (bytes_of kind text) + suc (length rest) } ∷ tokens_from (is_numeral kind) (b ∷ rest)
 token_first kind text b rest s e = at_bytes (bytes_of kind text) s.some.0 s.some.1 s.some.2 (s.cut b rest e) s.shows
   where
-    at_bytes : (bytes : List ℕ) (c : ℕ) (cs : List ℕ) → bytes ≡ c ∷ cs → piece false (bytes ++ b ∷ rest) ≡ (kind, length bytes) → text_of kind bytes ≡ text
+    at_bytes : (bytes : List ℕ) (c : ℕ) (cs : List ℕ) → bytes ≡ c ∷ cs
+        → piece false (bytes ++ b ∷ rest) ≡ (kind, length bytes) → text_of kind bytes ≡ text
         → tokens_from false (bytes ++ b ∷ rest) ≡ record { kind = kind; text = text; left = length bytes + suc (length rest) } ∷ tokens_from (is_numeral kind) (b ∷ rest)
     at_bytes [] c cs is cut shows = absurd cc
     at_bytes (d ∷ ds) c cs is cut shows =
@@ -166,7 +175,8 @@ abbrev ended : List Mark → List ℕ
 ended ms = flat_map printed ms ++ 10 ∷ []
 
 -- a separator stands first
-ended_begins : (ms : List Mark) → list_all is_mark ms ≡ true → (b : ℕ) × (rest : List ℕ) × (is_separator b ≡ true) × (ended ms ≡ b ∷ rest)
+ended_begins : (ms : List Mark) → list_all is_mark ms ≡ true
+    → (b : ℕ) × (rest : List ℕ) × (is_separator b ≡ true) × (ended ms ≡ b ∷ rest)
 ended_begins [] all = (10, [], refl, refl)
 ended_begins (m ∷ ms) all = (m.blank, (bytes_of m.kind m.text ++ flat_map printed ms) ++ 10 ∷ [], and_left (is_separator m.blank) _ (and_left (is_mark m) (list_all is_mark ms) all), refl)
 
@@ -178,7 +188,8 @@ bytes_left (m ∷ ms) =
     let g : length ((bytes ++ flat_map printed ms) ++ 10 ∷ []) ≡ length bytes + length (ended ms) = rw (append_assoc bytes (flat_map printed ms) (10 ∷ [])) (length-append bytes (ended ms)) in
     ap suc (g ∙ ap (λ (n : ℕ). length bytes + n) (bytes_left ms))
 
-marks_cut : (numbered : Bool) (ms : List Mark) → list_all is_mark ms ≡ true → tokens_from numbered (ended ms) ≡ tokens_before [] ms
+marks_cut : (numbered : Bool) (ms : List Mark) → list_all is_mark ms ≡ true
+    → tokens_from numbered (ended ms) ≡ tokens_before [] ms
 marks_cut numbered [] all = separator_first numbered 10 [] refl ∙ no_tokens false [] refl
 marks_cut numbered (m ∷ ms) all =
     let here = and_left (is_mark m) (list_all is_mark ms) all in

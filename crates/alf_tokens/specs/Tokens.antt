@@ -3,7 +3,8 @@
 --   piece numbered bytes     the kind and the length of the piece that the bytes begin with, which is as long as it can be
 --   pieces_of bytes          the pieces of a text, one after the other
 --   tokens_of bytes          the tokens of a text: its pieces without white space
--- `numbered` says that a number ends right before the bytes. A letter there begins no piece. Where no piece begins, the rest of the text is one broken piece.
+-- `numbered` says that a number ends right before the bytes. A letter there begins no piece. Where no piece begins, the
+-- rest of the text is one broken piece.
 use Rattle.std.specs.Prelude.{ℕ, zero, suc, ◌+◌, ◌-◌, List, [], ◌∷◌, length, take, drop, filter, Bool, true, false, not, ◌&&◌, ◌==◌, nat_le, nat_lt, Option, Some, None, if◌then◌else◌}
 use Rattle.std.specs.List.{prefix_len}
 use Rattle.std.specs.Char.{is_ascii_digit, is_ascii_alphabetic}

@@ -1,16 +1,30 @@
 //! Tokens, worked out apart from the definitions.
 
 ghost use Rattle.std.specs.Prelude.{◌≡◌, [], ◌∷◌, codes, false};
-ghost use Rattle.alf_tokens.specs.declared.token.Kind.TheVariants.{White, Open, Close, Word, Number, Long, Quoted, Broken};
+ghost use Rattle.alf_tokens.specs.declared.token.Kind.TheVariants.{White, Open, Close, Word, Number, Long, Quoted};
+ghost use Rattle.alf_tokens.specs.declared.token.Kind.TheVariants.{Broken};
 ghost use Rattle.alf_tokens.specs.Tokens.{piece, tokens_of};
 
 /// Braces, words and numbers are tokens; white space, of which comments are, stands between them.
 pub fn texts_have_their_tokens()
-    ensures braces { tokens_of (codes "{ a_1 12}") ≡ record { kind = Open; text = codes "{"; left = 9 } ∷ record { kind = Word; text = codes "a_1"; left = 7 } ∷ record { kind = Number; text = codes "12"; left = 3 } ∷ record { kind = Close; text = codes "}"; left = 1 } ∷ [] }
-    ensures comment { tokens_of (codes "a/* / */b") ≡ record { kind = Word; text = codes "a"; left = 9 } ∷ record { kind = Word; text = codes "b"; left = 1 } ∷ [] }
+    ensures braces { tokens_of (codes "{ a_1 12}")
+        ≡ record {
+          kind = Open;
+          text = codes "{";
+          left = 9;
+        } ∷ record { kind = Word; text = codes "a_1"; left = 7 }
+        ∷ record { kind = Number; text = codes "12"; left = 3 } ∷ record {
+          kind = Close;
+          text = codes "}";
+          left = 1;
+        } ∷ [] }
+    ensures comment { tokens_of (codes "a/* / */b")
+        ≡ record { kind = Word; text = codes "a"; left = 9 } ∷ record { kind = Word; text = codes "b"; left = 1 } ∷ [] }
     ensures blanks { tokens_of (9 ∷ 10 ∷ 13 ∷ 32 ∷ 97 ∷ []) ≡ record { kind = Word; text = codes "a"; left = 1 } ∷ [] }
     ensures name { tokens_of (34 ∷ 97 ∷ 32 ∷ 34 ∷ []) ≡ record { kind = Quoted; text = 97 ∷ 32 ∷ []; left = 4 } ∷ [] }
-    ensures apart { tokens_of (codes "1a") ≡ record { kind = Number; text = codes "1"; left = 2 } ∷ record { kind = Broken; text = codes "a"; left = 1 } ∷ [] }
+    ensures apart { tokens_of (codes "1a")
+        ≡ record { kind = Number; text = codes "1"; left = 2 } ∷ record { kind = Broken; text = codes "a"; left = 1 }
+        ∷ [] }
 {}
 
 /// A name has 1 byte and more from the space to the tilde, but no backslash; a comment ends; a number of more

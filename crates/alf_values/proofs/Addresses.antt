@@ -44,11 +44,13 @@ pub record IsPlace (frames : List Frame) (running : List Bool) (cell : Cell) (si
   pub lives : is_live running frame.shape.owner ≡ true
   pub fits : cell.offset * 8 + size ≤ frame.shape.bits
 
-pub place_is : (frames : List Frame) (running : List Bool) (at : Value) (size : ℕ) (cell : Cell) → tested frames running at size ≡ Ok cell → IsPlace frames running cell size
+pub place_is : (frames : List Frame) (running : List Bool) (at : Value) (size : ℕ) (cell : Cell)
+    → tested frames running at size ≡ Ok cell → IsPlace frames running cell size
 place_is frames running (Int own word) size cell is = cc
 place_is frames running (Ptr number offset) size cell is = go (slice_get frames number) refl is
   where
-    go : (got : Option Frame) → slice_get frames number ≡ got → tested_in got running number offset size ≡ Ok cell → IsPlace frames running cell size
+    go : (got : Option Frame) → slice_get frames number ≡ got → tested_in got running number offset size ≡ Ok cell
+        → IsPlace frames running cell size
     go None at is = cc
     go (Some frame) at is = by_test (is_live running frame.shape.owner)
         (λ lives. by_test (fits_in frame.shape.bits offset size)
@@ -112,7 +114,8 @@ module _ (frames : List Frame) (functions : List Activity) (history : List RunEv
       go (Ok cell) it = cell_loaded size cell (omega (arith, is.least), is.bytes) (place_is frames (running_of functions) at size cell it)
 
   -- a store is refused with the history's fault
-  pub refused_is : (at value : Value) (fault : RunFault) → tested frames (running_of functions) at (size_of value) ≡ Err fault
+  pub refused_is : (at value : Value) (fault : RunFault)
+      → tested frames (running_of functions) at (size_of value) ≡ Err fault
       → store (shapes (memory_of frames functions)) history at value ≡ Err fault
   refused_is at value fault is = ap (stored history value) (address_is at (size_of value) ∙ ap addressed is)
 

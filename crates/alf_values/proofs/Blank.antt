@@ -26,7 +26,8 @@ pub record IsBlankFrame (frame : Frame) : Type 0 where
   pub slots_are : frame.slots.items ≡ replicate (frame.shape.bits / 8) blank
 
 -- each frame of blank parts is one
-blank_frame : (frames : List Frame) (rows : List FrameRow) (number : ℕ) (frame : Frame) → map parts_of frames ≡ map blank_parts rows
+blank_frame : (frames : List Frame) (rows : List FrameRow) (number : ℕ) (frame : Frame)
+    → map parts_of frames ≡ map blank_parts rows
     → slice_get frames number ≡ Some frame → IsBlankFrame frame
 blank_frame [] rows number frame same is = cc
 blank_frame (one ∷ frames) [] number frame same is = cc
@@ -91,7 +92,8 @@ module _ (frames : List Frame) (rows : List FrameRow) (count : ℕ) (same : map 
       }
 
 -- the frames are those of the rows
-pub blank_shapes : (frames : List Frame) (rows : List FrameRow) (functions : List Activity) → map parts_of frames ≡ map blank_parts rows
+pub blank_shapes : (frames : List Frame) (rows : List FrameRow) (functions : List Activity)
+    → map parts_of frames ≡ map blank_parts rows
     → shapes (memory_of frames functions) ≡ shapes_of rows
 blank_shapes [] [] functions same = refl
 blank_shapes [] (row ∷ rows) functions same = cc
@@ -114,7 +116,8 @@ module _ (frames : List Frame) (functions : List Activity) (rows : List FrameRow
   new_stands = to_seen frames functions [] (subst (λ (all : List Activity). Stands frames all []) (sym idles) (blank_stands frames rows count same))
 
   -- it has the frames and the functions of the program
-  pub new_made : (program : NumberedProgram) → rows ≡ program.frames → count ≡ length program.funcs → IsMadeFor program (memory_of frames functions)
+  pub new_made : (program : NumberedProgram) → rows ≡ program.frames → count ≡ length program.funcs
+      → IsMadeFor program (memory_of frames functions)
   new_made program frames_are count_is = record {
     shapes_are = blank_shapes frames rows functions same ∙ ap shapes_of frames_are;
     functions_are = length-map functions (λ activity. activity.runs) ∙ (ap length idles ∙ (length-replicate count idle ∙ count_is));

@@ -30,12 +30,14 @@ use Rattle.alf_values.proofs.Standing.{Stands, from_seen, to_seen, left_stands, 
 use Rattle.alf_values.proofs.Addresses.{IsPlace, place_is, loaded_is, refused_is, stored_is}
 
 -- the frames' owners and sizes are seen
-pub shapes_seen : (frames : List Frame) (functions : List Activity) → shapes (memory_of frames functions) ≡ shapes_in frames
+pub shapes_seen : (frames : List Frame) (functions : List Activity)
+    → shapes (memory_of frames functions) ≡ shapes_in frames
 shapes_seen [] functions = refl
 shapes_seen (frame ∷ frames) functions = ap (λ shapes. frame.shape ∷ shapes) (shapes_seen frames functions)
 
 -- and they are the same whatever the functions' states
-pub shapes_same : (frames : List Frame) (functions others : List Activity) (memory : RunMemory) → memory_of frames functions ≡ memory
+pub shapes_same : (frames : List Frame) (functions others : List Activity) (memory : RunMemory)
+    → memory_of frames functions ≡ memory
     → shapes (memory_of frames others) ≡ shapes memory
 shapes_same frames functions others memory seen = shapes_seen frames others ∙ (sym (shapes_seen frames functions) ∙ ap shapes seen)
 
@@ -47,7 +49,8 @@ module _ (frames : List Frame) (functions : List Activity) (memory : RunMemory) 
   within : (function : ℕ) → function < length memory.running → function < length functions
   within function low = let same : length (running_of functions) ≡ length memory.running = ap (λ (m : RunMemory). length m.running) seen in omega (arith, length-map functions (λ activity. activity.runs))
 
-  pub entered : (function mark : ℕ) → AreKept frames functions → function < length memory.running → mark ≡ mark_of functions (Some function)
+  pub entered : (function mark : ℕ) → AreKept frames functions → function < length memory.running
+      → mark ≡ mark_of functions (Some function)
       → (history : List RunEvent) → StandsFor memory history
       → StandsFor (memory_of frames (slice_set functions function (record { runs = true; mark = mark + 1 }))) (Enter function ∷ history)
   entered function mark keeps low is history stands =
@@ -69,7 +72,8 @@ module _ (frames : List Frame) (functions : List Activity) (memory : RunMemory) 
       (loaded_is frames functions history (parts_stand history stands) at size is)
 
   -- a store is refused with the history's fault
-  pub refused : (at value : Value) (fault : RunFault) → tested frames (running_of functions) at (size_of value) ≡ Err fault
+  pub refused : (at value : Value) (fault : RunFault)
+      → tested frames (running_of functions) at (size_of value) ≡ Err fault
       → (history : List RunEvent) → StandsFor memory history → store (shapes memory) history at value ≡ Err fault
   refused at value fault is history stands =
       subst (λ (m : RunMemory). store (shapes m) history at value ≡ Err fault) seen (refused_is frames functions history (parts_stand history stands) at value fault is)
@@ -95,7 +99,8 @@ module _ (frames : List Frame) (functions : List Activity) (memory : RunMemory) 
         stored_kept frames new functions cell.frame cell.offset (size_of value) value place.frame place.known (written_here place) others keeps
 
     -- the memory stands for the history with the store
-    pub stores : IsStorable value → (history : List RunEvent) → StandsFor memory history → StoresTo memory (memory_of new functions) history at value
+    pub stores : IsStorable value → (history : List RunEvent) → StandsFor memory history
+        → StoresTo memory (memory_of new functions) history at value
     stores storable history stands =
         let place = place_is frames (running_of functions) at (size_of value) cell is in
         let before = parts_stand history stands in
@@ -124,7 +129,8 @@ filled frames number own frame mark value offset count slots known is at =
     })
 
 -- a frame of the same shape in the place of one leaves the owners and sizes
-pub same_shapes : (frames : List Frame) (number : ℕ) (own new : Frame) → slice_get frames number ≡ Some own → new.shape ≡ own.shape
+pub same_shapes : (frames : List Frame) (number : ℕ) (own new : Frame) → slice_get frames number ≡ Some own
+    → new.shape ≡ own.shape
     → shapes_in (slice_set frames number new) ≡ shapes_in frames
 same_shapes [] number own new known same = refl
 same_shapes (frame ∷ frames) zero own new known same =

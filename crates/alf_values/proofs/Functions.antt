@@ -13,7 +13,8 @@ use Rattle.alf_values.specs.Cells.{mark_of, mark_or, running_of}
 use Rattle.alf_values.proofs.Writes.{get_set_same, get_set_other}
 
 -- a member of a list that was mapped
-pub get_map : {A B : Type 0} (f : A → B) (xs : List A) (i : ℕ) (x : A) → slice_get xs i ≡ Some x → slice_get (map f xs) i ≡ Some (f x)
+pub get_map : {A B : Type 0} (f : A → B) (xs : List A) (i : ℕ) (x : A) → slice_get xs i ≡ Some x
+    → slice_get (map f xs) i ≡ Some (f x)
 get_map f xs i x is = slice_get-map f xs i ∙ ap (option_map f) is
 
 -- it is one of a member
@@ -22,14 +23,16 @@ pub record IsMapped {A B : Type 0} (f : A → B) (xs : List A) (i : ℕ) (y : B)
   pub known : slice_get xs i ≡ Some member
   pub image : f member ≡ y
 
-pub map_found : {A B : Type 0} (f : A → B) (xs : List A) (i : ℕ) (y : B) → slice_get (map f xs) i ≡ Some y → IsMapped f xs i y
+pub map_found : {A B : Type 0} (f : A → B) (xs : List A) (i : ℕ) (y : B) → slice_get (map f xs) i ≡ Some y
+    → IsMapped f xs i y
 map_found f [] i y is = cc
 map_found f (x ∷ xs) zero y is = record { member = x; known = refl; image = cc }
 map_found f (x ∷ xs) (suc i) y is = let h = map_found f xs i y is in record { member = h.member; known = h.known; image = h.image }
 
 module _ (functions : List Activity) (function : ℕ) (activity : Activity) where
   -- the function that was set
-  pub live_same : (own : ℕ) → own ≡ function → function < length functions → is_live (running_of (slice_set functions function activity)) (Some own) ≡ activity.runs
+  pub live_same : (own : ℕ) → own ≡ function → function < length functions
+      → is_live (running_of (slice_set functions function activity)) (Some own) ≡ activity.runs
   live_same own same low =
       ap (λ (n : ℕ). is_live (running_of (slice_set functions function activity)) (Some n)) same
       ∙ ap true_or (get_map (λ one. one.runs) (slice_set functions function activity) function activity (get_set_same functions function activity low))
@@ -42,11 +45,13 @@ module _ (functions : List Activity) (function : ℕ) (activity : Activity) wher
       ∙ sym (slice_get-map (λ one. one.runs) functions own)))
 
   -- the marks of the frames of the function, and of others
-  pub mark_same : (own : ℕ) → own ≡ function → function < length functions → mark_of (slice_set functions function activity) (Some own) ≡ activity.mark
+  pub mark_same : (own : ℕ) → own ≡ function → function < length functions
+      → mark_of (slice_set functions function activity) (Some own) ≡ activity.mark
   mark_same own same low =
       ap (λ (n : ℕ). mark_of (slice_set functions function activity) (Some n)) same ∙ ap mark_or (get_set_same functions function activity low)
 
-  pub mark_other : (own : ℕ) → own ≢ function → mark_of (slice_set functions function activity) (Some own) ≡ mark_of functions (Some own)
+  pub mark_other : (own : ℕ) → own ≢ function
+      → mark_of (slice_set functions function activity) (Some own) ≡ mark_of functions (Some own)
   mark_other own other = ap mark_or (get_set_other functions function own activity other)
 
   -- a mark that is set again

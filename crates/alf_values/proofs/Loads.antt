@@ -34,7 +34,8 @@ pub record IsLeft (byte : ℕ) (stored : Byte) : Type 0 where
   pub fits : FitsValue stored.size stored.value
 
 -- the store begins at the byte or before it
-low_end : (owner : Option ℕ) (frame : ℕ) (history : List RunEvent) (byte : ℕ) (stored : Byte) → origin owner frame history byte ≡ Some stored → stored.offset ≤ byte
+low_end : (owner : Option ℕ) (frame : ℕ) (history : List RunEvent) (byte : ℕ) (stored : Byte)
+    → origin owner frame history byte ≡ Some stored → stored.offset ≤ byte
 low_end owner frame [] byte stored is = cc
 low_end owner frame (Enter function ∷ history) byte stored is = by_test (is_owner owner function)
     (λ mine. let e : None ≡ Some stored = rw mine at is in cc)
@@ -44,7 +45,8 @@ low_end owner frame (Store f o s v ∷ history) byte stored is = by_test (f == f
     (λ here. in_frame (rw here at is) (λ e. low_end owner frame history byte stored e))
     (λ there. low_end owner frame history byte stored (rw there at is))
   where
-    in_frame : put o s v (origin owner frame history) byte ≡ Some stored → (origin owner frame history byte ≡ Some stored → stored.offset ≤ byte)
+    in_frame : put o s v (origin owner frame history) byte ≡ Some stored
+        → (origin owner frame history byte ≡ Some stored → stored.offset ≤ byte)
         → stored.offset ≤ byte
     in_frame e older = by_test (is_byte_of o s byte)
         (λ inside.
@@ -63,7 +65,8 @@ left owner frame history byte stored sound is =
 -- ---- tests of what bytes hold
 
 -- one test of two lists of bytes
-any_same : {A B : Type 0} (p : A → Bool) (q : B → Bool) (f : ℕ → A) (g : ℕ → B) (offset count : ℕ) → ((byte : ℕ) → p (f byte) ≡ q (g byte))
+any_same : {A B : Type 0} (p : A → Bool) (q : B → Bool) (f : ℕ → A) (g : ℕ → B) (offset count : ℕ)
+    → ((byte : ℕ) → p (f byte) ≡ q (g byte))
     → list_any p (map f (offsets offset count)) ≡ list_any q (map g (offsets offset count))
 any_same p q f g offset zero same = refl
 any_same p q f g offset (suc count) same = rw (same offset, any_same p q f g (suc offset) count same) refl
@@ -81,14 +84,16 @@ pointer_same (Some byte) = of_part byte.value byte.place
     of_part (Ptr frame offset) place = refl
 
 -- bytes of words hold the bits that the stores left
-word_same : (from : ℕ → Option Byte) (offset count : ℕ) → list_any histories.of_pointer (map from (offsets offset count)) ≡ false
+word_same : (from : ℕ → Option Byte) (offset count : ℕ)
+    → list_any histories.of_pointer (map from (offsets offset count)) ≡ false
     → word_held (map (λ byte. content_of (from byte)) (offsets offset count)) ≡ word_of (map from (offsets offset count))
 word_same from offset zero none = refl
 word_same from offset (suc count) none =
     let parts : (histories.of_pointer (from offset) ≡ false) × (list_any histories.of_pointer (map from (offsets (suc offset) count)) ≡ false) = or_parts _ _ none in
     rw (word_same from (suc offset) count parts.1, bits_same (from offset) parts.0) refl
   where
-    of_part : (value : Value) (place : ℕ) → is_pointer value ≡ false → bits_held (Some (part value place)) ≡ byte_of place (bits_of value)
+    of_part : (value : Value) (place : ℕ) → is_pointer value ≡ false
+        → bits_held (Some (part value place)) ≡ byte_of place (bits_of value)
     of_part (Int size word) place is = refl
     of_part (Ptr frame offset) place is = absurd (false≢true (sym is))
 
@@ -108,7 +113,8 @@ in_order held frame target offset place (suc count) start at each =
     and_from _ _ here (in_order held frame target offset (suc place) count (suc start) (omega arith) (λ byte low high. each byte (omega arith) (omega arith)))
 
 -- each of bytes in order is a byte of a pointer, at its place
-each_part : (held : ℕ → Option Content) (offset place count start : ℕ) → start ≡ offset + place → are_parts place (map held (offsets start count)) ≡ true
+each_part : (held : ℕ → Option Content) (offset place count start : ℕ) → start ≡ offset + place
+    → are_parts place (map held (offsets start count)) ≡ true
     → (byte : ℕ) → start ≤ byte → byte < start + count → is_part (byte - offset) (held byte) ≡ true
 each_part held offset place zero start at all byte low high = absurd (omega arith)
 each_part held offset place (suc count) start at all byte low high =
@@ -127,7 +133,8 @@ part_of_pointer place (Some (Word low)) is = absurd (false≢true is)
 part_of_pointer place (Some (Pointer frame offset own)) is = refl
 
 -- the byte at this place of a pointer comes from a store of exactly the cell that has it there
-part_from : (value : Value) (stored : Byte) (byte offset : ℕ) → stored.value ≡ value → IsLeft byte stored → offset ≤ byte
+part_from : (value : Value) (stored : Byte) (byte offset : ℕ) → stored.value ≡ value → IsLeft byte stored
+    → offset ≤ byte
     → is_part (byte - offset) (Some (part value stored.place)) ≡ true → is_from offset 32 (Some stored) ≡ true
 part_from (Int own word) stored byte offset v is low h = absurd (false≢true h)
 part_from (Ptr frame target) stored byte offset v is low h =
@@ -153,7 +160,8 @@ module _ (from : ℕ → Option Byte) (offset size : ℕ) (is : IsCell size) (ea
       absurd (false≢true (sym many ∙ all)))
       (λ apart. apart)
     where
-      go : (byte : ℕ) → offset ≤ byte → (stored : Option Byte) → from byte ≡ stored → is_part (byte - offset) (content_of stored) ≡ true → is_from offset 32 stored ≡ true
+      go : (byte : ℕ) → offset ≤ byte → (stored : Option Byte) → from byte ≡ stored
+          → is_part (byte - offset) (content_of stored) ≡ true → is_from offset 32 stored ≡ true
       go byte low None at h = absurd (false≢true h)
       go byte low (Some stored) at h = part_from stored.value stored byte offset refl (each byte stored at) low h
 
@@ -215,7 +223,8 @@ held_as_stored owner frame history held offset size sound is agree =
         let value = one_store (origin owner frame history) offset size is each store.value store.fits store.each (blanks ∙ some) in
         value ∙ (sym (first (size / 8) is.0 (store.each offset (in_cell offset size offset (omega arith) (omega (arith, is.0))))) ∙ sym r)
       where
-        first : {value : Value} (count : ℕ) → 0 < count → origin owner frame history offset ≡ Some (left_by offset size value offset)
+        first : {value : Value} (count : ℕ) → 0 < count
+            → origin owner frame history offset ≡ Some (left_by offset size value offset)
             → first_value (map (origin owner frame history) (offsets offset count)) ≡ Ok value
         first zero none at = absurd (omega arith)
         first (suc count) some at = rw at refl

@@ -28,9 +28,11 @@ use Rattle.alf_values.proofs.Writes.{length-written, written_in, written_out, ou
 use Rattle.alf_values.proofs.Functions.{get_map, map_found, live_same, live_other, mark_same, mark_other}
 
 -- the slots of one frame hold what the history left there, while it is active
-pub record FrameHolds (owner : Option ℕ) (bits : ℕ) (slots : List Slot) (active : Bool) (mark number : ℕ) (history : List RunEvent) : Type 0 where
+pub record FrameHolds (owner : Option ℕ) (bits : ℕ) (slots : List Slot) (active : Bool) (mark number : ℕ)
+    (history : List RunEvent) : Type 0 where
   pub same : active ≡ is_active owner history
-  pub bytes : active ≡ true → (byte : ℕ) → byte < bits / 8 → held slots mark byte ≡ content_of (origin owner number history byte)
+  pub bytes : active ≡ true → (byte : ℕ) → byte < bits / 8
+      → held slots mark byte ≡ content_of (origin owner number history byte)
 
 -- those of a frame that is kept do
 abbrev pub Holds : List Activity → Frame → ℕ → List RunEvent → Type 0
@@ -77,7 +79,8 @@ module _ (frames : List Frame) (functions : List Activity) (history : List RunEv
 -- ---- a function was left
 
 module _ (frames : List Frame) (functions : List Activity) (function : ℕ) (activity : Activity) (history : List RunEvent) (low : function < length functions) where
-  frame_left : (owner : Option ℕ) (bits : ℕ) (slots : List Slot) (number : ℕ) → activity.runs ≡ false → activity.mark ≡ mark_of functions (Some function)
+  frame_left : (owner : Option ℕ) (bits : ℕ) (slots : List Slot) (number : ℕ) → activity.runs ≡ false
+      → activity.mark ≡ mark_of functions (Some function)
       → FrameHolds owner bits slots (is_live (running_of functions) owner) (mark_of functions owner) number history
       → FrameHolds owner bits slots (is_live (running_of (slice_set functions function activity)) owner) (mark_of (slice_set functions function activity) owner) number (Leave function ∷ history)
   frame_left None bits slots number stopped is h = record { same = h.same; bytes = h.bytes }
@@ -99,10 +102,12 @@ module _ (frames : List Frame) (functions : List Activity) (function : ℕ) (act
       ended : (own : ℕ) → (function == own) ≡ true → is_active (Some own) (Leave function ∷ history) ≡ false
       ended own is = rw is refl
 
-      goes_on : (own : ℕ) → (function == own) ≡ false → is_active (Some own) (Leave function ∷ history) ≡ is_active (Some own) history
+      goes_on : (own : ℕ) → (function == own) ≡ false
+          → is_active (Some own) (Leave function ∷ history) ≡ is_active (Some own) history
       goes_on own is = rw is refl
 
-  pub left_stands : activity.runs ≡ false → activity.mark ≡ mark_of functions (Some function) → Stands frames functions history
+  pub left_stands : activity.runs ≡ false → activity.mark ≡ mark_of functions (Some function)
+      → Stands frames functions history
       → Stands frames (slice_set functions function activity) (Leave function ∷ history)
   left_stands stopped is h = record {
     sound = h.sound;
@@ -111,7 +116,8 @@ module _ (frames : List Frame) (functions : List Activity) (function : ℕ) (act
 
   -- ---- a function was entered
 
-  frame_entered : (owner : Option ℕ) (bits : ℕ) (slots : List Slot) (number : ℕ) → activity.runs ≡ true → mark_of functions (Some function) < activity.mark
+  frame_entered : (owner : Option ℕ) (bits : ℕ) (slots : List Slot) (number : ℕ) → activity.runs ≡ true
+      → mark_of functions (Some function) < activity.mark
       → ((byte : ℕ) (slot : Slot) → slice_get slots byte ≡ Some slot → slot.mark ≤ mark_of functions owner)
       → FrameHolds owner bits slots (is_live (running_of functions) owner) (mark_of functions owner) number history
       → FrameHolds owner bits slots (is_live (running_of (slice_set functions function activity)) owner) (mark_of (slice_set functions function activity) owner) number (Enter function ∷ history)
@@ -139,7 +145,8 @@ module _ (frames : List Frame) (functions : List Activity) (function : ℕ) (act
         }
   ]
     where
-      none : (slot : Option Slot) → ((one : Slot) → slot ≡ Some one → one.mark < activity.mark) → held_in activity.mark slot ≡ None
+      none : (slot : Option Slot) → ((one : Slot) → slot ≡ Some one → one.mark < activity.mark)
+          → held_in activity.mark slot ≡ None
       none None old = refl
       none (Some slot) old =
           let differ : slot.mark ≢ activity.mark = λ e. omega (arith, old slot refl) in
@@ -148,17 +155,20 @@ module _ (frames : List Frame) (functions : List Activity) (function : ℕ) (act
       begun : (own : ℕ) → (function == own) ≡ true → is_active (Some own) (Enter function ∷ history) ≡ true
       begun own is = rw is refl
 
-      goes_on : (own : ℕ) → (function == own) ≡ false → is_active (Some own) (Enter function ∷ history) ≡ is_active (Some own) history
+      goes_on : (own : ℕ) → (function == own) ≡ false
+          → is_active (Some own) (Enter function ∷ history) ≡ is_active (Some own) history
       goes_on own is = rw is refl
 
-      emptied : (own number byte : ℕ) → (own == function) ≡ true → content_of (origin (Some own) number (Enter function ∷ history) byte) ≡ None
+      emptied : (own number byte : ℕ) → (own == function) ≡ true
+          → content_of (origin (Some own) number (Enter function ∷ history) byte) ≡ None
       emptied own number byte is = rw is refl
 
       kept : (own number byte : ℕ) → (own == function) ≡ false
           → content_of (origin (Some own) number (Enter function ∷ history) byte) ≡ content_of (origin (Some own) number history byte)
       kept own number byte is = rw is refl
 
-  pub entered_stands : activity.runs ≡ true → mark_of functions (Some function) < activity.mark → AreKept frames functions → Stands frames functions history
+  pub entered_stands : activity.runs ≡ true → mark_of functions (Some function) < activity.mark
+      → AreKept frames functions → Stands frames functions history
       → Stands frames (slice_set functions function activity) (Enter function ∷ history)
   entered_stands runs later keeps h = record {
     sound = h.sound;
@@ -183,7 +193,8 @@ module _ (old new : List Frame) (functions : List Activity) (number offset size 
   same_frame : (now : Frame) → slice_get new number ≡ Some now → here.frame ≡ now
   same_frame now is = let e : Some here.frame ≡ Some now = sym here.known ∙ is in cc
 
-  pub stored_stands : (history : List RunEvent) → FitsValue size value → Stands old functions history → Stands new functions (Store number offset size value ∷ history)
+  pub stored_stands : (history : List RunEvent) → FitsValue size value → Stands old functions history
+      → Stands new functions (Store number offset size value ∷ history)
   stored_stands history fits h = record {
     sound = (fits, h.sound);
     each = λ other now is. elim (cases_eq other number) [

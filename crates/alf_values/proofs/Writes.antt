@@ -24,7 +24,8 @@ get_set_same (y ∷ ys) zero x low = refl
 get_set_same (y ∷ ys) (suc i) x low = get_set_same ys i x (omega arith)
 
 -- another member
-pub get_set_other : {A : Type 0} (xs : List A) (i j : ℕ) (x : A) → j ≢ i → slice_get (slice_set xs i x) j ≡ slice_get xs j
+pub get_set_other : {A : Type 0} (xs : List A) (i j : ℕ) (x : A) → j ≢ i
+    → slice_get (slice_set xs i x) j ≡ slice_get xs j
 get_set_other [] i j x differ = refl
 get_set_other (y ∷ ys) zero zero x differ = absurd (differ refl)
 get_set_other (y ∷ ys) zero (suc j) x differ = refl
@@ -47,13 +48,15 @@ abbrev slot_of : ℕ → Value → ℕ → Slot
 slot_of mark value place = record { mark = mark; content = part value place }
 
 -- a write leaves the number of slots
-pub length-written : (mark : ℕ) (value : Value) (slots : List Slot) (first place count : ℕ) → length (written mark value slots first place count) ≡ length slots
+pub length-written : (mark : ℕ) (value : Value) (slots : List Slot) (first place count : ℕ)
+    → length (written mark value slots first place count) ≡ length slots
 length-written mark value slots first place zero = refl
 length-written mark value slots first place (suc count) =
     length-written mark value (slice_set slots first (slot_of mark value place)) (suc first) (suc place) count ∙ length-set slots first (slot_of mark value place)
 
 -- a slot that is not written
-pub written_out : (mark : ℕ) (value : Value) (slots : List Slot) (first place count byte : ℕ) → (byte < first) ⊎ (first + count ≤ byte)
+pub written_out : (mark : ℕ) (value : Value) (slots : List Slot) (first place count byte : ℕ)
+    → (byte < first) ⊎ (first + count ≤ byte)
     → slice_get (written mark value slots first place count) byte ≡ slice_get slots byte
 written_out mark value slots first place zero byte out = refl
 written_out mark value slots first place (suc count) byte out =
@@ -63,7 +66,8 @@ written_out mark value slots first place (suc count) byte out =
     ∙ get_set_other slots first byte (slot_of mark value place) differ
 
 -- a slot that is written
-pub written_in : (mark : ℕ) (value : Value) (slots : List Slot) (first place count byte number : ℕ) → first ≤ byte → byte < first + count
+pub written_in : (mark : ℕ) (value : Value) (slots : List Slot) (first place count byte number : ℕ) → first ≤ byte
+    → byte < first + count
     → number + first ≡ place + byte → byte < length slots
     → slice_get (written mark value slots first place count) byte ≡ Some (record { mark = mark; content = part value number })
 written_in mark value slots first place zero byte number low high is here = absurd (omega arith)

@@ -18,7 +18,8 @@ use Rattle.alf_values.specs.declared.fault.ValueFault.TheVariants.{Run, Memory}
 use Rattle.alf_values.specs.Contents.{content_of, cell_held}
 use Rattle.alf_values.specs.Memories.{HeldFrame, RunMemory, shapes, is_live, byte_in}
 
--- the frame is active where it is after the history, and then each of its bytes holds what the newest store left there since its owner was last entered
+-- the frame is active where it is after the history, and then each of its bytes holds what the newest store left there
+-- since its owner was last entered
 pub record FrameStandsFor (frame : HeldFrame) (live : Bool) (number : ℕ) (history : List RunEvent) : Type 0 where
   pub active : live ≡ is_active frame.shape.owner history
   pub bytes : live ≡ true → (byte : ℕ) → byte < frame.shape.bits / 8

@@ -5,7 +5,8 @@ ghost use Rattle.alf_ops.specs.Values.{size_of};
 ghost use Rattle.alf_values.specs.declared.cells.Frame.{Frame};
 ghost use Rattle.alf_values.specs.Memories.{is_live};
 ghost use Rattle.alf_values.specs.Slots.{blank, written};
-ghost use Rattle.alf_values.specs.Cells.{blank_parts, parts_of, idle, running_of, mark_of, tested, loaded, slots_at, shapes_in, IsFilled};
+ghost use Rattle.alf_values.specs.Cells.{blank_parts, parts_of, idle, running_of, mark_of, tested, loaded, slots_at};
+ghost use Rattle.alf_values.specs.Cells.{shapes_in, IsFilled};
 
 use crate::bytes::Content;
 use crate::slots::{Slot, load_cell, write};
@@ -136,7 +137,8 @@ pub(crate) fn bits_in(value: Value) -> u32
 /// Writes a value in a cell.
 pub(crate) fn write_in(frames: &mut [Frame], cell: Cell, mark: u64, value: Value, size: u32)
     requires { size ≤ 64 }
-    ensures here { (frame : Frame) → slice_get frames.old cell.frame ≡ Some frame → IsFilled frames.new cell.frame frame.shape (written mark value frame.slots.items cell.offset 0 (size / 8)) }
+    ensures here { (frame : Frame) → slice_get frames.old cell.frame ≡ Some frame
+        → IsFilled frames.new cell.frame frame.shape (written mark value frame.slots.items cell.offset 0 (size / 8)) }
     ensures others { (other : ℕ) → other ≢ cell.frame → slice_get frames.new other ≡ slice_get frames.old other }
     ensures shapes { shapes_in frames.new ≡ shapes_in frames.old }
 {

@@ -64,7 +64,9 @@ impl Frames {
         requires { func < length self.old.running }
         ensures shapes { shapes self.new ≡ shapes self.old }
         ensures functions { length self.new.running ≡ length self.old.running }
-        ensures stands { OnOk result ((history : List RunEvent) → StandsFor self.old history → StandsFor self.new (RunEvent.Enter func ∷ history)) }
+        ensures stands { OnOk result
+            ((history : List RunEvent) → StandsFor self.old history
+            → StandsFor self.new (RunEvent.Enter func ∷ history)) }
         ensures refused { OnErr result (self.new ≡ self.old) }
     {
         let number = func as usize;
@@ -84,7 +86,8 @@ impl Frames {
         requires { func < length self.old.running }
         ensures shapes { shapes self.new ≡ shapes self.old }
         ensures functions { length self.new.running ≡ length self.old.running }
-        ensures stands { (history : List RunEvent) → StandsFor self.old history → StandsFor self.new (RunEvent.Leave func ∷ history) }
+        ensures stands { (history : List RunEvent) → StandsFor self.old history
+            → StandsFor self.new (RunEvent.Leave func ∷ history) }
     {
         let mark = mark_in(&self.functions, Some(func));
         self.functions[func as usize] = Activity { runs: false, mark };
@@ -95,7 +98,8 @@ impl Frames {
         requires { IsStorable value }
         ensures shapes { shapes self.new ≡ shapes self.old }
         ensures functions { length self.new.running ≡ length self.old.running }
-        ensures stands { (history : List RunEvent) → StandsFor self.old history → Stored self.old self.new history at value result }
+        ensures stands { (history : List RunEvent) → StandsFor self.old history
+            → Stored self.old self.new history at value result }
         ensures refused { OnErr result (self.new ≡ self.old) }
     {
         let size = bits_in(value);
@@ -113,7 +117,8 @@ impl Frames {
     /// then those of the bytes, `Uninit` before `Mixed`.
     pub fn load(&self, at: Value, size: u32) -> Result<Value, RunFault>
         requires { IsCellSize size }
-        ensures { (history : List RunEvent) → StandsFor self.now history → result ≡ load (shapes self.now) history at size }
+        ensures { (history : List RunEvent) → StandsFor self.now history
+            → result ≡ load (shapes self.now) history at size }
     {
         let tested = cell_at(&self.frames, &self.functions, at, size);
         load_from(&self.frames, &self.functions, tested, size)

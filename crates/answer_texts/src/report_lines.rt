@@ -15,7 +15,8 @@ use std::alloc::{AllocError, Global};
 
 /// The line that tells where a text departs from the grammar of reports. Want of memory has none.
 pub fn report_fault_line(alloc: Global, fault: &ReportFault) -> Result<Vec<u8>, AllocError>
-    ensures { IfOk result (λ line. IsSomeAnd (departure_of fault.now) (λ departure. line.items ≡ report_fault_line departure)) }
+    ensures { IfOk result
+        (λ line. IsSomeAnd (departure_of fault.now) (λ departure. line.items ≡ report_fault_line departure)) }
 {
     match fault {
         ReportFault::Syntax(place) => place_line(alloc, "fault 60 syntax", *place),
@@ -72,7 +73,8 @@ fn numbered_line(alloc: Global, words: &str, number: u128) -> Result<Vec<u8>, Al
 
 // The line of a fault that was told at the node and has no alarm.
 fn alarm_line(alloc: Global, node: u32, fault: RunFault) -> Result<Vec<u8>, AllocError>
-    ensures { IfOk result (λ line. line.items ≡ codes "no alarm " ++ (decimal node ++ (32 ∷ (fault_word fault ++ 10 ∷ [])))) }
+    ensures { IfOk result
+        (λ line. line.items ≡ codes "no alarm " ++ (decimal node ++ (32 ∷ (fault_word fault ++ 10 ∷ [])))) }
 {
     let word = word_of(fault);
     let text = format!(in alloc; "no alarm {node} {word}\n")?;

@@ -6,7 +6,8 @@ ghost use Rattle.alf_ops.specs.TwosComplement.{signed};
 ghost use Rattle.alf_check.specs.CheckedPrograms.{seen};
 ghost use Rattle.alf_interp.specs.Counts.{outcome_of};
 ghost use Rattle.answer_texts.specs.ScopeLines.{name_of};
-ghost use Rattle.answer_texts.specs.RunText.{frame_text, value_text, returned_line, global_line, global_lines, stopped_line, run_text};
+ghost use Rattle.answer_texts.specs.RunText.{frame_text, value_text, returned_line, global_line, global_lines};
+ghost use Rattle.answer_texts.specs.RunText.{stopped_line, run_text};
 
 use crate::fault_words::word_of;
 use alf_check::Checked;
@@ -24,7 +25,10 @@ pub fn run_text(
     tally: &Tally,
 ) -> Result<Vec<u8>, AllocError>
     requires { tally.now.last < length graph.now.nodes }
-    ensures { IfOk result (λ text. text.items ≡ run_text (record { program = seen checked.now; graph = graph.now }) (Some tally.now.last) (outcome_of tally.now.end) tally.now.turns tally.now.cost) }
+    ensures { IfOk result
+        (λ text. text.items
+        ≡ run_text (record { program = seen checked.now; graph = graph.now }) (Some tally.now.last)
+        (outcome_of tally.now.end) tally.now.turns tally.now.cost) }
 {
     let mut text = Vec::new(alloc);
     match &tally.end {
@@ -60,7 +64,8 @@ fn push_globals(
     frames: &[u32],
     values: &[Option<Value>],
 ) -> Result<(), AllocError>
-    ensures { OnOk result (text.new.items ≡ text.old.items ++ global_lines (seen checked.now) (zip frames.now values.now)) }
+    ensures { OnOk result
+        (text.new.items ≡ text.old.items ++ global_lines (seen checked.now) (zip frames.now values.now)) }
 {
     let Some((frame, frames)) = frames.split_first() else {
         return Ok(());

@@ -1,7 +1,8 @@
 //! Lines of answers, worked out apart from the definitions.
 
 ghost use Rattle.std.specs.Prelude.{◌≡◌, ◌++◌, [], ◌∷◌, codes, Some, None, true, false};
-ghost use Rattle.alf_ops.specs.declared.history.RunFault.TheVariants.{Divide, Uninit, Mixed, Bounds, Dead, Kind, Pointers};
+ghost use Rattle.alf_ops.specs.declared.history.RunFault.TheVariants.{Divide, Uninit, Mixed, Bounds, Dead, Kind};
+ghost use Rattle.alf_ops.specs.declared.history.RunFault.TheVariants.{Pointers};
 ghost use Rattle.alf_ops.specs.declared.history.Value.TheVariants.{Int};
 ghost use Rattle.cost_table.specs.declared.fault.TableFault.TheVariants as faults;
 ghost use Rattle.fact_words.specs.Canonical.{fault_word as report_word};
@@ -53,15 +54,20 @@ pub fn what_speaks_against_a_report_has_its_line()
 pub fn tables_are_refused_in_one_line()
     ensures toml { table_line (codes "costs") faults.Toml ≡ Some (codes "fault 70 toml costs" ++ (10 ∷ [])) }
     ensures top { table_line (codes "values") (faults.Key None) ≡ Some (codes "fault 71 key values -" ++ (10 ∷ [])) }
-    ensures key { table_line (codes "inputs") (faults.Key (Some 2)) ≡ Some (codes "fault 71 key inputs 2" ++ (10 ∷ [])) }
+    ensures key { table_line (codes "inputs") (faults.Key (Some 2))
+        ≡ Some (codes "fault 71 key inputs 2" ++ (10 ∷ [])) }
     ensures range { table_line (codes "costs") (faults.Range 0) ≡ Some (codes "fault 72 range costs 0" ++ (10 ∷ [])) }
-    ensures cell { table_line (codes "inputs") (faults.NoSuchCell 1) ≡ Some (codes "fault 73 cell inputs 1" ++ (10 ∷ [])) }
+    ensures cell { table_line (codes "inputs") (faults.NoSuchCell 1)
+        ≡ Some (codes "fault 73 cell inputs 1" ++ (10 ∷ [])) }
 {}
 
 /// Hits come before the bound of a cache, boxes before the greatest bound, and a run that a fault ends tells the
 /// fault and the node.
 pub fn answers_are_told_line_by_line()
-    ensures cache { cache_text (record { hits = 1 ∷ 12 ∷ []; bound = 30 }) ≡ codes "hit 1" ++ (10 ∷ (codes "hit 12" ++ (10 ∷ (codes "cache-bound 30" ++ (10 ∷ []))))) }
-    ensures worst { worst_text (record { boxes = record { area = []; bound = 5 } ∷ record { area = []; bound = 4 } ∷ []; exact = true }) ≡ codes "box 5" ++ (10 ∷ (codes "box 4" ++ (10 ∷ (codes "worst 5 exact" ++ (10 ∷ []))))) }
+    ensures cache { cache_text (record { hits = 1 ∷ 12 ∷ []; bound = 30 })
+        ≡ codes "hit 1" ++ (10 ∷ (codes "hit 12" ++ (10 ∷ (codes "cache-bound 30" ++ (10 ∷ []))))) }
+    ensures worst { worst_text
+        (record { boxes = record { area = []; bound = 5 } ∷ record { area = []; bound = 4 } ∷ []; exact = true })
+        ≡ codes "box 5" ++ (10 ∷ (codes "box 4" ++ (10 ∷ (codes "worst 5 exact" ++ (10 ∷ []))))) }
     ensures stopped { stopped_line Mixed (codes "n") ≡ codes "stopped mixed n" ++ (10 ∷ []) }
 {}

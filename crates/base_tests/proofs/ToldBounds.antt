@@ -5,7 +5,8 @@ use Rattle.worst_inputs.specs.declared.bounder.Bounded.{Bounded}
 use Rattle.worst_inputs.specs.declared.bounder.Bounded.TheVariants.{At, Left}
 use Rattle.base_tests.specs.BoundTables.{with_bound, told_of_all}
 
-with_both : (most bound : ℕ) (told : Bounded) → with_bound most (with_bound bound told) ≡ with_bound (max bound most) told
+with_both : (most bound : ℕ) (told : Bounded)
+    → with_bound most (with_bound bound told) ≡ with_bound (max bound most) told
 with_both most bound (At other) = ap At (omega arith)
 with_both most bound (Left scope) = refl
 
@@ -14,7 +15,8 @@ with_none (At bound) = ap At (omega arith)
 with_none (Left scope) = refl
 
 module _ (entries : List Bounded) (i : ℕ) (most : ℕ) (d : Bounded) (so_far : with_bound most (told_of_all (drop i entries)) ≡ told_of_all entries) where
-  pub at_more : (bound : ℕ) → i < length entries → get_or entries i d ≡ At bound → with_bound (max bound most) (told_of_all (drop (i + 1) entries)) ≡ told_of_all entries
+  pub at_more : (bound : ℕ) → i < length entries → get_or entries i d ≡ At bound
+      → with_bound (max bound most) (told_of_all (drop (i + 1) entries)) ≡ told_of_all entries
   at_more bound low is =
       let here : told_of_all (drop i entries) ≡ with_bound bound (told_of_all (drop (i + 1) entries)) =
       at_drop_more told_of_all entries i d low ∙ ap (λ (e : Bounded). told_of_all (e ∷ drop (i + 1) entries)) is in

@@ -27,12 +27,14 @@ record IsAt (entry : Bounded) (most : ℕ) : Type 0 where
   low : bound ≤ most
 
 -- what is told of a bound more
-more_told : (bound : ℕ) (told : Bounded) (most : ℕ) → with_bound bound told ≡ At most → (other : ℕ) × (told ≡ At other) × (max bound other ≡ most)
+more_told : (bound : ℕ) (told : Bounded) (most : ℕ) → with_bound bound told ≡ At most
+    → (other : ℕ) × (told ≡ At other) × (max bound other ≡ most)
 more_told bound (At other) most e = (other, refl, at_is (max bound other) most e)
 more_told bound (Left scope) most e = absurd (at_not most scope (sym e))
 
 -- where all are told, each entry has a bound, no greater
-each_told : (entries : List Bounded) (most : ℕ) → told_of_all entries ≡ At most → (k : ℕ) (d : Bounded) → k < length entries → IsAt (get_or entries k d) most
+each_told : (entries : List Bounded) (most : ℕ) → told_of_all entries ≡ At most → (k : ℕ) (d : Bounded)
+    → k < length entries → IsAt (get_or entries k d) most
 each_told [] most e k d low = absurd (omega arith)
 each_told (At bound ∷ entries) most e zero d low = let more = more_told bound (told_of_all entries) most e in let m = more.2 in record { bound = bound; is = refl; low = omega arith }
 each_told (At bound ∷ entries) most e (suc k) d low =
@@ -53,7 +55,8 @@ alone : (entry : Bounded) (bound : ℕ) → told_of_all (entry ∷ []) ≡ At bo
 alone (At other) bound e = let m = at_is (max other 0) bound e in ap At (omega arith)
 alone (Left scope) bound e = absurd (at_not bound scope (sym e))
 
-single : (entries : List Bounded) (low : ℕ) → low < length entries → slice_range entries low (low + 1) ≡ get_or entries low (At 0) ∷ []
+single : (entries : List Bounded) (low : ℕ) → low < length entries
+    → slice_range entries low (low + 1) ≡ get_or entries low (At 0) ∷ []
 single entries low within =
     let one : low + 1 - low ≡ 1 = omega arith in
     ap (λ (n : ℕ). take n (drop low entries)) one ∙ ap (take 1) (drop_more entries low (At 0) within)
@@ -88,7 +91,8 @@ module _ (entries : List Bounded) where
   one_of range (number ∷ other ∷ rest) least inside = absurd inside.1
 
   -- what the table tells of a number of the range
-  entry_at : (range : Range) (bound number : ℕ) → pos 0 ≤ℤ range.low → range.high <ℤ pos (length entries) → told_of_all (slice_range entries (unsigned_abs range.low) (unsigned_abs range.high + 1)) ≡ At bound
+  entry_at : (range : Range) (bound number : ℕ) → pos 0 ≤ℤ range.low → range.high <ℤ pos (length entries)
+      → told_of_all (slice_range entries (unsigned_abs range.low) (unsigned_abs range.high + 1)) ≡ At bound
       → range.low ≤ℤ pos number → pos number ≤ℤ range.high → (cost : ℕ) × (slice_get entries number ≡ Some (At cost)) × (cost ≤ bound)
   entry_at range bound number least most told above below =
       let low = natural range.low least in
@@ -113,14 +117,16 @@ module _ (entries : List Bounded) where
       let both : Some (At cost) ≡ Some (At other) = sym h.at ∙ ap (slice_get entries) numbers ∙ k.at in
       cc
 
-  bounds : (area : Area) (bound : ℕ) (input : List ℤ) → IsOfTable entries area → At bound ≡ told_of entries area → IsInside area input → CostsAtMost (HasCost entries) input bound
+  bounds : (area : Area) (bound : ℕ) (input : List ℤ) → IsOfTable entries area → At bound ≡ told_of entries area
+      → IsInside area input → CostsAtMost (HasCost entries) input bound
   bounds area bound input suits told inside =
       let one = one_of suits.range input suits.least (subst (λ (a : Area). IsInside a input) suits.one inside) in
       let there = entry_at suits.range bound one.number suits.least suits.most (sym (told ∙ ap (told_of entries) suits.one)) one.least one.most in
       let has : HasCost entries input there.0 = record { number = one.number; one = one.one; at = there.1 } in
       record { some = (there.0, has); most = λ cost is. let same = one_cost input cost there.0 is has in let low = there.2 in omega arith }
 
-  point_exact : (area : Area) (bound : ℕ) (input : List ℤ) → IsOfTable entries area → IsPoint area → At bound ≡ told_of entries area → IsInside area input → CostsExactly (HasCost entries) input bound
+  point_exact : (area : Area) (bound : ℕ) (input : List ℤ) → IsOfTable entries area → IsPoint area
+      → At bound ≡ told_of entries area → IsInside area input → CostsExactly (HasCost entries) input bound
   point_exact area bound input suits point told inside =
       let range = suits.range in
       let low : ℕ = unsigned_abs range.low in

@@ -1,6 +1,6 @@
 //! Tests of files and names, of words of the command line, of operators, of numbers, of walks and of searches for worst
-//! inputs: `flow_base`, `sweet_words`, `alf_ops`, `whole_numbers`, `progressions`, `graph_walks` and `worst_inputs`. Without
-//! tests this library has the definitions of `bound_table` alone.
+//! inputs: `flow_base`, `sweet_words`, `alf_ops`, `whole_numbers`, `progressions`, `graph_walks` and `worst_inputs`.
+//! Without tests this library has the definitions of `bound_table` alone.
 //!
 //! - `tables`: tables of tests as text, and what answers their rows.
 //! - `outside`: digits and names, shelves and sinks. `streams`: readers and writers that take a piece at a time.

@@ -98,8 +98,8 @@ fn a_load_answers_by_the_events(rt: HostRuntime) -> Result<(), Fail> {
     hold(rt.alloc(), LOADS)
 }
 
-// Stores that share bytes. Afterwards the bytes of frame 0 are, from offset 0 on, 01 02 03 cd ab 06 ef be 11, then three of
-// the pointer, then four without a store.
+// Stores that share bytes. Afterwards the bytes of frame 0 are, from offset 0 on, 01 02 03 cd ab 06 ef be 11, then
+// three of the pointer, then four without a store.
 static OVERLAPS: &str = "\
 store 0+8 8 8:17
 store 0+8 32 2+8

@@ -1,4 +1,5 @@
-//! Names and sizes of operators, their values at words, and what they make of pointers, by hand or by the rules' own words.
+//! Names and sizes of operators, their values at words, and what they make of pointers, by hand or by the rules' own
+//! words.
 
 use crate::tables::{hold, number, numbers, part, push_numbers};
 use alf_ops::{

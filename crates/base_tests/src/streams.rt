@@ -115,8 +115,8 @@ pub fn reader_told(alloc: Global, asked: &str) -> Result<String, AllocError> {
     String::from_str(alloc, read_told(&read, &wanted))
 }
 
-// How many bytes a pipe passes at a time, whether it is broken by interruptions, after how many bytes it fails, how many it has,
-// and the most that is wanted.
+// How many bytes a pipe passes at a time, whether it is broken by interruptions, after how many bytes it fails, how
+// many it has, and the most that is wanted.
 static READERS: &str = "\
 40 reader
 1000000 steady 1000000 0 0 => same
@@ -180,8 +180,8 @@ pub fn writer_told(alloc: Global, asked: &str) -> Result<String, AllocError> {
     String::from_str(alloc, "other")
 }
 
-// How many bytes a pipe passes at a time, whether it is broken by interruptions, after how many bytes it fails, and how many are
-// written.
+// How many bytes a pipe passes at a time, whether it is broken by interruptions, after how many bytes it fails, and how
+// many are written.
 static WRITERS: &str = "\
 19 writer
 1000000 steady 1000000 0 => same

@@ -1,5 +1,5 @@
-//! The word that each operator gives, computed by hand or by the table's own words apart from the program: at sizes 1, 7, 8,
-//! 31, 32, 63 and 64, and at 0, 1, all ones, and the least and the greatest signed word.
+//! The word that each operator gives, computed by hand or by the table's own words apart from the program: at sizes 1,
+//! 7, 8, 31, 32, 63 and 64, and at 0, 1, all ones, and the least and the greatest signed word.
 
 use crate::tables::hold;
 use std::test::Fail;

@@ -19,7 +19,8 @@ use Rattle.branch_refinement.specs.Refinements.{refined_by}
 use Rattle.branch_refinement.specs.Arms.{seen_arms, if_there, arm_by, target_arms_by, arms_by, goals_of, IsArmOf}
 
 -- an arm that is there is one of the same program
-pub one_arm : (memory : MemoryParts) (to : ℕ) (o : Option MemoryParts) (own : MemoryParts) → o ≡ Some own → IfSome o (λ m. m.checked ≡ memory.checked) → IfSome o IsMemory → IsArmOf memory (to, own)
+pub one_arm : (memory : MemoryParts) (to : ℕ) (o : Option MemoryParts) (own : MemoryParts) → o ≡ Some own
+    → IfSome o (λ m. m.checked ≡ memory.checked) → IfSome o IsMemory → IsArmOf memory (to, own)
 one_arm memory to o own is checked kept = record {
   checked = subst (λ (x : Option MemoryParts). IfSome x (λ m. m.checked ≡ memory.checked)) is checked;
   kept = subst (λ (x : Option MemoryParts). IfSome x IsMemory) is kept;
@@ -34,7 +35,8 @@ seen_goals : (path : List ℕ) (own : List (ℕ × MemoryParts)) → goals_of pa
 seen_goals path [] = refl
 seen_goals path (a ∷ own) = ap (λ (goals : Goals). (Some (block_node path a.0), memory_in a.1) ∷ goals) (seen_goals path own)
 
-both_goals : (path : List ℕ) (xs ys : List (ℕ × Mem abstract_sets)) → to_goals path (xs ++ ys) ≡ to_goals path xs ++ to_goals path ys
+both_goals : (path : List ℕ) (xs ys : List (ℕ × Mem abstract_sets))
+    → to_goals path (xs ++ ys) ≡ to_goals path xs ++ to_goals path ys
 both_goals path [] ys = refl
 both_goals path (x ∷ xs) ys = ap (λ (goals : Goals). (Some (block_node path x.0), x.1) ∷ goals) (both_goals path xs ys)
 
@@ -47,7 +49,8 @@ module _ (rows : List FrameShape) (m : Mem abstract_sets) (e : NumberedExpressio
   arm_is to None = refl
   arm_is to (Some words) = one_goal path to (refined_by r m words) ∙ ap (arm_to path to) (same words)
 
-  targets_are : (words : Stride) (targets : List (ℕ × ℕ)) → to_goals path (target_arms_by r m words targets) ≡ target_arms rows m e path words targets
+  targets_are : (words : Stride) (targets : List (ℕ × ℕ))
+      → to_goals path (target_arms_by r m words targets) ≡ target_arms rows m e path words targets
   targets_are words [] = refl
   targets_are words (target ∷ targets) =
       both_goals path (arm_by r m target.1 (only words target.0)) (target_arms_by r m words targets)
@@ -55,7 +58,8 @@ module _ (rows : List FrameShape) (m : Mem abstract_sets) (e : NumberedExpressio
       ∙ ap (λ (goals : Goals). arm rows m e path target.1 (only words target.0) ++ goals) (targets_are words targets))
 
   -- arms by what the expression tells are those of the rules, as goals
-  pub arms_are : (own : List (ℕ × MemoryParts)) (targets : List (ℕ × ℕ)) (others : ℕ) (words : Stride) → seen_arms own ≡ arms_by r m targets others words
+  pub arms_are : (own : List (ℕ × MemoryParts)) (targets : List (ℕ × ℕ)) (others : ℕ) (words : Stride)
+      → seen_arms own ≡ arms_by r m targets others words
       → goals_of path own ≡ arms rows m e path targets others words
   arms_are own targets others words is =
       let last = arm_by r m others (without_all (Some words) targets) in

@@ -40,10 +40,12 @@ none_is a e = absurd (none-some a e)
 -- ---- where places lie
 
 module _ (rows : List FrameShape) (runs : ℕ → Bool) (size : ℕ) (cell : ℕ × ℕ) where
-  tested_lies : (frame offset : ℕ) → result_ok (tested rows runs (Ptr frame offset) size) ≡ Some cell → IsCellOf rows cell.0 cell.1 size
+  tested_lies : (frame offset : ℕ) → result_ok (tested rows runs (Ptr frame offset) size) ≡ Some cell
+      → IsCellOf rows cell.0 cell.1 size
   tested_lies frame offset e = go (slice_get rows frame) refl e
     where
-      go : (found : Option FrameShape) → slice_get rows frame ≡ found → result_ok (tested_in found runs frame offset size) ≡ Some cell → IsCellOf rows cell.0 cell.1 size
+      go : (found : Option FrameShape) → slice_get rows frame ≡ found
+          → result_ok (tested_in found runs frame offset size) ≡ Some cell → IsCellOf rows cell.0 cell.1 size
       go None found e = none_is cell e
       go (Some row) found e = by_test (is_on runs row.owner)
           (λ on. by_test (fits_in row.bits offset size)
@@ -53,7 +55,8 @@ module _ (rows : List FrameShape) (runs : ℕ → Bool) (size : ℕ) (cell : ℕ
           (λ past. none_is cell (rw (on, past) at e)))
           (λ off. none_is cell (rw off at e))
 
-  cell_lies : (words : Option Stride) (places : List (ℕ × Stride)) → cell_of rows runs size words places ≡ Some cell → IsCellOf rows cell.0 cell.1 size
+  cell_lies : (words : Option Stride) (places : List (ℕ × Stride)) → cell_of rows runs size words places ≡ Some cell
+      → IsCellOf rows cell.0 cell.1 size
   cell_lies (Some words) places e = none_is cell e
   cell_lies None [] e = none_is cell e
   cell_lies None (place ∷ other ∷ places) e = none_is cell e
@@ -65,7 +68,8 @@ module _ (rows : List FrameShape) (runs : ℕ → Bool) (size : ℕ) (cell : ℕ
   where_lies None o e = none_is cell e
   where_lies (Some words) o e = e
 
-loaded_lies : (rows : List FrameShape) (m : Mem abstract_sets) (size : ℕ) (o : Option AbstractValue) (cell : ℕ × ℕ) → loaded_cell rows m size o ≡ Some cell → IsCellOf rows cell.0 cell.1 size
+loaded_lies : (rows : List FrameShape) (m : Mem abstract_sets) (size : ℕ) (o : Option AbstractValue) (cell : ℕ × ℕ)
+    → loaded_cell rows m size o ≡ Some cell → IsCellOf rows cell.0 cell.1 size
 loaded_lies rows m size None cell e = none_is cell e
 loaded_lies rows m size (Some at) cell e =
     cell_lies rows m.runs size cell at.words at.places
@@ -77,7 +81,8 @@ load_lies rows m extended size at place e =
     let i = some_image (λ (cell : ℕ × ℕ). record { cell = cell; size = size; extended = extended }) (loaded_cell rows m size (value_at rows m at).left) place e in
     subst (λ (p : SeenPlace). IsCellOf rows p.cell.0 p.cell.1 p.size) i.2 (loaded_lies rows m size (value_at rows m at).left i.0 i.1)
 
-operand_lies : (rows : List FrameShape) (m : Mem abstract_sets) (es : NumberedExpressions) (place : SeenPlace) → operand_place rows m es ≡ Some place → IsCellOf rows place.cell.0 place.cell.1 place.size
+operand_lies : (rows : List FrameShape) (m : Mem abstract_sets) (es : NumberedExpressions) (place : SeenPlace)
+    → operand_place rows m es ≡ Some place → IsCellOf rows place.cell.0 place.cell.1 place.size
 operand_lies rows m Empty place e = none_is place e
 operand_lies rows m (With (Number num) Empty) place e = none_is place e
 operand_lies rows m (With (Address frame offset) Empty) place e = none_is place e
@@ -86,7 +91,8 @@ operand_lies rows m (With (Apply op sizes es) Empty) place e = none_is place e
 operand_lies rows m (With x (With other es)) place e = none_is place e
 
 -- the cell of a place lies in its frame
-pub place_lies : (rows : List FrameShape) (m : Mem abstract_sets) (e : NumberedExpression) (place : SeenPlace) → place_of rows m e ≡ Some place → IsCellOf rows place.cell.0 place.cell.1 place.size
+pub place_lies : (rows : List FrameShape) (m : Mem abstract_sets) (e : NumberedExpression) (place : SeenPlace)
+    → place_of rows m e ≡ Some place → IsCellOf rows place.cell.0 place.cell.1 place.size
 place_lies rows m (Number num) place is = none_is place is
 place_lies rows m (Address frame offset) place is = none_is place is
 place_lies rows m (Load size at) place is = load_lies rows m false size at place is
@@ -106,7 +112,8 @@ pin_fits table k rows m e size (Some place) has is = record {
 }
 
 -- a side that is found fits the size of its expression
-pub side_fits : (parts : MemoryParts) (table : List FrameRow) (k : ℕ) (e : NumberedExpression) (size : ℕ) (side : Side) → IsMemory parts → HasSize table k size e
+pub side_fits : (parts : MemoryParts) (table : List FrameRow) (k : ℕ) (e : NumberedExpression) (size : ℕ) (side : Side)
+    → IsMemory parts → HasSize table k size e
     → IsSide (rows_of parts.checked) (memory_in parts) e side → SideFits (rows_of parts.checked) size side
 side_fits parts table k e size side kept has is = record {
   words = subst (λ (o : Option Stride). IfSome o (λ w. w.size ≡ size)) (sym is.words)

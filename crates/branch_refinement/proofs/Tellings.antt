@@ -42,12 +42,14 @@ none_is a e = absurd (none-some a e)
 
 -- ---- memories of arms
 
-same_sides : (m : Mem abstract_sets) (rel other : Rel) (p q r s : Option SeenPlace) (x y z w : Option Stride) → rel ≡ other → p ≡ r → x ≡ z → q ≡ s → y ≡ w
+same_sides : (m : Mem abstract_sets) (rel other : Rel) (p q r s : Option SeenPlace) (x y z w : Option Stride)
+    → rel ≡ other → p ≡ r → x ≡ z → q ≡ s → y ≡ w
     → pinned_sides rel p x q y m ≡ pinned_sides other r z s w m
 same_sides m rel other p q r s x y z w one two three four five = cc
 
 -- the memories of arms are those of the rules
-pub is_refined : (rows : List FrameShape) (m : Mem abstract_sets) (e : NumberedExpression) (r : Refinement) → IsRefinement rows m e r → (arm : Stride) → refined_by r m arm ≡ refined rows m e arm
+pub is_refined : (rows : List FrameShape) (m : Mem abstract_sets) (e : NumberedExpression) (r : Refinement)
+    → IsRefinement rows m e r → (arm : Stride) → refined_by r m arm ≡ refined rows m e arm
 is_refined rows m e Nothing is arm =
     sym (ap (λ (o : Option SeenPlace). by_form rows m o (comparison_of e) arm) is.0 ∙ ap (λ (c : Option Comparison). by_form rows m None c arm) is.1)
 is_refined rows m e (At place) is arm = sym (ap (λ (o : Option SeenPlace). by_form rows m o (comparison_of e) arm) is)
@@ -68,13 +70,16 @@ pub record SidesHave (table : List FrameRow) (k : ℕ) (c : Comparison) : Type 0
   pub left : HasSize table k size c.first
   pub right : HasSize table k size c.second
 
-sides_have : (table : List FrameRow) (k size : ℕ) (e : NumberedExpression) (c : Comparison) → comparison_of e ≡ Some c → HasSize table k size e → SidesHave table k c
+sides_have : (table : List FrameRow) (k size : ℕ) (e : NumberedExpression) (c : Comparison) → comparison_of e ≡ Some c
+    → HasSize table k size e → SidesHave table k c
 sides_have table k size (Number num) c is has = none_is c is
 sides_have table k size (Address frame offset) c is has = none_is c is
 sides_have table k size (Load bits at) c is has = none_is c is
 sides_have table k size (Apply op sizes es) c is has = go (relation_of op) refl is
   where
-    sides : (rel : Rel) (es : NumberedExpressions) → operand_sizes op sizes ≡ slice_index sizes 0 ∷ slice_index sizes 0 ∷ [] → HaveSizes table k (operand_sizes op sizes) es → sides_of rel es ≡ Some c
+    sides : (rel : Rel) (es : NumberedExpressions)
+        → operand_sizes op sizes ≡ slice_index sizes 0 ∷ slice_index sizes 0 ∷ []
+        → HaveSizes table k (operand_sizes op sizes) es → sides_of rel es ≡ Some c
         → SidesHave table k c
     sides rel Empty are have is = none_is c is
     sides rel (With x Empty) are have is = none_is c is
@@ -83,12 +88,14 @@ sides_have table k size (Apply op sizes es) c is has = go (relation_of op) refl 
         let both : HaveSizes table k (slice_index sizes 0 ∷ slice_index sizes 0 ∷ []) (With x (With y Empty)) = subst (λ (s : List ℕ). HaveSizes table k s (With x (With y Empty))) are have in
         subst (SidesHave table k) (same_Some (record { rel = rel; first = x; second = y }) c is) (record { size = slice_index sizes 0; left = both.0; right = both.1.0 })
 
-    go : (o : Option Rel) → relation_of op ≡ o → option_and_then (λ rel. sides_of rel es) o ≡ Some c → SidesHave table k c
+    go : (o : Option Rel) → relation_of op ≡ o → option_and_then (λ rel. sides_of rel es) o ≡ Some c
+        → SidesHave table k c
     go None found is = none_is c is
     go (Some rel) found is = sides rel es (ap (λ (o : Op). operand_sizes o sizes) (relation_is op rel found) ∙ compared_sizes rel sizes) has.operands is
 
 -- the words of what an expression gives have its size
-given_size : (size : ℕ) (o : Option AbstractValue) (v : AbstractValue) (words : Stride) → IfSome o (IsValue size) → o ≡ Some v → v.words ≡ Some words → size ≡ words.size
+given_size : (size : ℕ) (o : Option AbstractValue) (v : AbstractValue) (words : Stride) → IfSome o (IsValue size)
+    → o ≡ Some v → v.words ≡ Some words → size ≡ words.size
 given_size size o v words is same of_words =
     let of_v : IsValue size v = subst (λ (x : Option AbstractValue). IfSome x (IsValue size)) same is in
     sym (subst (λ (w : Option Stride). IfSome w (λ x. x.size ≡ size)) of_words of_v.sized.words)
@@ -111,14 +118,16 @@ refinement_fits parts e v words (Between rel first second) kept typed given of_w
     }
 
 -- of words of its size
-pub sized_fit : (rows : List FrameShape) (size : ℕ) (r : Refinement) (o : Option Stride) → Refines rows size r → IfSome o (λ own. own.size ≡ size) → IfSome o (λ own. Refines rows own.size r)
+pub sized_fit : (rows : List FrameShape) (size : ℕ) (r : Refinement) (o : Option Stride) → Refines rows size r
+    → IfSome o (λ own. own.size ≡ size) → IfSome o (λ own. Refines rows own.size r)
 sized_fit rows size r None fits sized = tt
 sized_fit rows size r (Some own) fits sized = subst (λ (s : ℕ). Refines rows s r) (sym sized) fits
 
 -- ---- what expressions tell
 
 -- an expression that is no comparison
-pub place_told : (rows : List FrameShape) (m : Mem abstract_sets) (e : NumberedExpression) (o : Option Place) → option_map seen_place o ≡ place_of rows m e → comparison_of e ≡ None
+pub place_told : (rows : List FrameShape) (m : Mem abstract_sets) (e : NumberedExpression) (o : Option Place)
+    → option_map seen_place o ≡ place_of rows m e → comparison_of e ≡ None
     → IsRefinement rows m e (of_place o)
 place_told rows m e None is none = (sym is, none)
 place_told rows m e (Some place) is none = sym is
@@ -137,7 +146,8 @@ comparison_told rows m op sizes rel x y (Between own first second) extends relat
   no_place = rw extends refl;
 }
 
-no_sides : (o : Option Rel) (es : List NumberedExpression) → (length es ≡ 2 → ⊥) → option_and_then (λ (rel : Rel). sides_of rel (expressions_of es)) o ≡ None
+no_sides : (o : Option Rel) (es : List NumberedExpression) → (length es ≡ 2 → ⊥)
+    → option_and_then (λ (rel : Rel). sides_of rel (expressions_of es)) o ≡ None
 no_sides None es other = refl
 no_sides (Some rel) [] other = refl
 no_sides (Some rel) (x ∷ []) other = refl
@@ -145,12 +155,14 @@ no_sides (Some rel) (x ∷ y ∷ []) other = absurd (other refl)
 no_sides (Some rel) (x ∷ y ∷ z ∷ es) other = refl
 
 -- an operator that does not have two operands
-pub tells_nothing : (rows : List FrameShape) (m : Mem abstract_sets) (op : Op) (sizes : List ℕ) (terms : List Term) → is_extension op ≡ false → (length terms ≡ 2 → ⊥)
+pub tells_nothing : (rows : List FrameShape) (m : Mem abstract_sets) (op : Op) (sizes : List ℕ) (terms : List Term)
+    → is_extension op ≡ false → (length terms ≡ 2 → ⊥)
     → IsRefinement rows m (Apply op sizes (expressions_of (map term_of terms))) Nothing
 tells_nothing rows m op sizes terms extends other = (rw extends refl, no_sides (relation_of op) (map term_of terms) (λ two. other (sym (length-map terms term_of) ∙ two)))
 
 -- two operands as they stand
-pub two_members : (terms : List Term) (x y : Term) → 2 ≤ length terms → length terms < 3 → x ≡ get_or terms 0 x → y ≡ get_or terms 1 y → terms ≡ x ∷ y ∷ []
+pub two_members : (terms : List Term) (x y : Term) → 2 ≤ length terms → length terms < 3 → x ≡ get_or terms 0 x
+    → y ≡ get_or terms 1 y → terms ≡ x ∷ y ∷ []
 two_members [] x y some few e f = absurd (omega arith)
 two_members (a ∷ []) x y some few e f = absurd (omega arith)
 two_members (a ∷ b ∷ []) x y some few e f = cc

@@ -43,13 +43,15 @@ of_place None = Nothing
 of_place (Some place) = At place
 
 -- it is what a comparison of these sides tells
-abbrev pub IsComparing : List FrameShape → Mem abstract_sets → Rel → NumberedExpression → NumberedExpression → Refinement → Type 0
+abbrev pub IsComparing : List FrameShape → Mem abstract_sets → Rel → NumberedExpression → NumberedExpression
+    → Refinement → Type 0
 IsComparing rows m rel x y Nothing = ⊥
 IsComparing rows m rel x y (At place) = ⊥
 IsComparing rows m rel x y (Between own first second) = (own ≡ rel) × IsSide rows m x first × IsSide rows m y second
 
 -- the expression compares the two sides, and is no place
-pub record IsBetween (rows : List FrameShape) (m : Mem abstract_sets) (e : NumberedExpression) (rel : Rel) (first second : Side) : Type 0 where
+pub record IsBetween (rows : List FrameShape) (m : Mem abstract_sets) (e : NumberedExpression) (rel : Rel)
+    (first second : Side) : Type 0 where
   pub c : Comparison
   pub is : comparison_of e ≡ Some c
   pub related : c.rel ≡ rel

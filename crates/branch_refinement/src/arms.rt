@@ -8,7 +8,8 @@ ghost use Rattle.transfer_rules.specs.Evaluating.{value_at};
 ghost use Rattle.transfer_rules.specs.Stepping.{arms as arms_by_rule, without_all as without_all_of};
 ghost use Rattle.step_statements.specs.Typed.{IsTyped};
 ghost use Rattle.branch_refinement.specs.Refinements.{Refines};
-ghost use Rattle.branch_refinement.specs.Arms.{seen_arms, arm_by, target_arms_by, arms_by as arms_by_words, goals_of, IsArmOf};
+ghost use Rattle.branch_refinement.specs.Arms.{seen_arms, arm_by, target_arms_by, arms_by as arms_by_words, goals_of};
+ghost use Rattle.branch_refinement.specs.Arms.{IsArmOf};
 
 use crate::pins::refined;
 use crate::refinements::Told;
@@ -55,7 +56,9 @@ fn push_arm<'a>(
     requires fits { Refines (rows_of memory.checked) words.size told.now }
     requires arms { All (IsArmOf memory) arms.old.items }
     ensures arms { OnOk result (All (IsArmOf memory.entry) arms.new.items) }
-    ensures pushed { OnOk result (seen_arms arms.new.items ≡ seen_arms arms.old.items ++ arm_by told.now (memory_in memory.entry) to (Some words)) }
+    ensures pushed { OnOk result
+        (seen_arms arms.new.items
+        ≡ seen_arms arms.old.items ++ arm_by told.now (memory_in memory.entry) to (Some words)) }
 {
     let own = refined(alloc, memory, told, words)?;
     let Some(own) = own else {
@@ -78,7 +81,9 @@ fn push_copy<'a>(
     requires fits { Refines (rows_of memory.now.checked) words.size told.now }
     requires arms { All (IsArmOf memory.now) arms.old.items }
     ensures arms { OnOk result (All (IsArmOf memory.now) arms.new.items) }
-    ensures pushed { OnOk result (seen_arms arms.new.items ≡ seen_arms arms.old.items ++ arm_by told.now (memory_in memory.now) to (Some words)) }
+    ensures pushed { OnOk result
+        (seen_arms arms.new.items
+        ≡ seen_arms arms.old.items ++ arm_by told.now (memory_in memory.now) to (Some words)) }
 {
     push_arm(alloc, memory.copy(alloc)?, told, to, words, arms)
 }
@@ -95,7 +100,9 @@ fn push_default<'a>(
     requires fits { IfSome default.1 (λ own. Refines (rows_of memory.checked) own.size told.now) }
     requires arms { All (IsArmOf memory) arms.old.items }
     ensures arms { OnOk result (All (IsArmOf memory.entry) arms.new.items) }
-    ensures pushed { OnOk result (seen_arms arms.new.items ≡ seen_arms arms.old.items ++ arm_by told.now (memory_in memory.entry) default.0 default.1) }
+    ensures pushed { OnOk result
+        (seen_arms arms.new.items
+        ≡ seen_arms arms.old.items ++ arm_by told.now (memory_in memory.entry) default.0 default.1) }
 {
     let (to, words) = default;
     let Some(words) = words else {
@@ -120,7 +127,9 @@ fn push_arms<'a>(
     requires arms { All (IsArmOf memory) arms.old.items }
     ensures arms { OnOk result (All (IsArmOf memory.entry) arms.new.items) }
     ensures pushed { OnOk result (seen_arms arms.new.items
-        ≡ seen_arms arms.old.items ++ (target_arms_by told.now (memory_in memory.entry) words targets.now ++ arm_by told.now (memory_in memory.entry) default.0 default.1)) }
+        ≡ seen_arms arms.old.items
+        ++ (target_arms_by told.now (memory_in memory.entry) words targets.now
+        ++ arm_by told.now (memory_in memory.entry) default.0 default.1)) }
 {
     let Some((target, others)) = targets.split_first() else {
         return push_default(alloc, memory, told, default, arms);
@@ -147,7 +156,8 @@ fn arms_by<'a>(
     requires kept { IsMemory memory }
     requires fits { Refines (rows_of memory.checked) words.size told.now }
     ensures each { IfOk result (λ arms. All (IsArmOf memory.entry) arms.items) }
-    ensures arms { IfOk result (λ arms. seen_arms arms.items ≡ arms_by_words told.now (memory_in memory.entry) targets.now others words) }
+    ensures arms { IfOk result
+        (λ arms. seen_arms arms.items ≡ arms_by_words told.now (memory_in memory.entry) targets.now others words) }
 {
     let mut arms = Vec::new(alloc);
     let rest = without_all(words, targets);
@@ -163,8 +173,8 @@ fn arms_by<'a>(
     Ok(arms)
 }
 
-/// The arms of a switch whose expression gives this value with these words: targets in order, then the default. Each has
-/// its block and its memory; an arm without words, or with a side of which nothing is left, is absent.
+/// The arms of a switch whose expression gives this value with these words: targets in order, then the default. Each
+/// has its block and its memory; an arm without words, or with a side of which nothing is left, is absent.
 pub fn switch_arms<'a>(
     alloc: Global,
     memory: AMem<'a>,
@@ -180,7 +190,8 @@ pub fn switch_arms<'a>(
     requires words { given.now.words ≡ Some words }
     ensures each { IfOk result (λ arms. All (IsArmOf memory.entry) arms.items) }
     ensures arms { IfOk result (λ arms. (path : List ℕ) → goals_of path arms.items
-        ≡ arms_by_rule (rows_of memory.entry.checked) (memory_in memory.entry) (term_of value.now) path targets.now others words) }
+        ≡ arms_by_rule (rows_of memory.entry.checked) (memory_in memory.entry) (term_of value.now) path targets.now
+        others words) }
 {
     let told = told_by(alloc, &memory, value, given)?;
     arms_by(alloc, memory, &told, words, targets, others)

@@ -43,7 +43,9 @@ fn pin_side(
     requires other { own.size ≡ other.size }
     ensures checked { OnOk result (memory.new.checked ≡ memory.old.checked) }
     ensures kept { OnOk result (IsMemory memory.new) }
-    ensures pinned { IfOk result (λ on. there on (memory_in memory.new) ≡ pinned_side (option_map seen_place place) (assumed rel own other) (memory_in memory.old)) }
+    ensures pinned { IfOk result
+        (λ on. there on (memory_in memory.new)
+        ≡ pinned_side (option_map seen_place place) (assumed rel own other) (memory_in memory.old)) }
 {
     let Some(place) = place else {
         return Ok(true);
@@ -67,7 +69,8 @@ fn pin_sides(
     requires fits { SidesFit (rows_of memory.old.checked) first second }
     ensures checked { OnOk result (memory.new.checked ≡ memory.old.checked) }
     ensures kept { OnOk result (IsMemory memory.new) }
-    ensures pinned { IfOk result (λ on. there on (memory_in memory.new) ≡ sides_by rel first second (memory_in memory.old)) }
+    ensures pinned { IfOk result
+        (λ on. there on (memory_in memory.new) ≡ sides_by rel first second (memory_in memory.old)) }
 {
     let Some(x) = first.words else {
         return Ok(true);
@@ -93,7 +96,8 @@ fn refine(
     requires fits { Refines (rows_of memory.old.checked) arm.size refinement }
     ensures checked { OnOk result (memory.new.checked ≡ memory.old.checked) }
     ensures kept { OnOk result (IsMemory memory.new) }
-    ensures refined { IfOk result (λ on. there on (memory_in memory.new) ≡ refined_by refinement (memory_in memory.old) arm) }
+    ensures refined { IfOk result
+        (λ on. there on (memory_in memory.new) ≡ refined_by refinement (memory_in memory.old) arm) }
 {
     match refinement {
         Refinement::Nothing => Ok(true),

@@ -36,7 +36,8 @@ pub(crate) fn place_at(cell: Option<(u32, u32)>, size: u32, extended: bool) -> O
 /// The cell, where it lies in its frame and this is active.
 fn tested(memory: &AMem<'_>, frame: u32, offset: u32, size: u32) -> Option<(u32, u32)>
     requires { size ≤ 64 }
-    ensures { result ≡ result_ok (tested_of (rows_of memory.now.checked) (memory_in memory.now).runs (Ptr frame offset) size) }
+    ensures { result
+        ≡ result_ok (tested_of (rows_of memory.now.checked) (memory_in memory.now).runs (Ptr frame offset) size) }
 {
     if memory.has_cell(frame, offset, size) {
         Some((frame, offset))
@@ -54,7 +55,10 @@ pub(crate) fn cell_at(
 ) -> Option<(u32, u32)>
     requires offsets { offsets.size ≡ 32 }
     requires size { size ≤ 64 }
-    ensures { result ≡ (if is_one_of offsets then result_ok (tested_of (rows_of memory.now.checked) (memory_in memory.now).runs (Ptr frame (word_of offsets)) size) else None) }
+    ensures { result
+        ≡ (if is_one_of offsets then result_ok
+        (tested_of (rows_of memory.now.checked) (memory_in memory.now).runs (Ptr frame (word_of offsets)) size)
+        else None) }
 {
     if offsets.is_one() {
         tested(memory, frame, offsets.word() as u32, size)
@@ -66,7 +70,8 @@ pub(crate) fn cell_at(
 /// The one cell of the address.
 pub(crate) fn one_cell(memory: &AMem<'_>, at: &AVal, size: u32) -> Option<(u32, u32)>
     requires { size ≤ 64 }
-    ensures { result ≡ cell_of (rows_of memory.now.checked) (memory_in memory.now).runs size at.now.words at.now.places }
+    ensures { result
+        ≡ cell_of (rows_of memory.now.checked) (memory_in memory.now).runs size at.now.words at.now.places }
 {
     match at.int() {
         Some(_) => None,

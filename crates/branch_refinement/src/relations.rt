@@ -1,7 +1,8 @@
 //! Operators that tell of their operands.
 
 ghost use Rattle.std.specs.Prelude.{◌≡◌};
-ghost use Rattle.transfer_rules.specs.Refining.{is_extension as is_extension_of, relation_of as relation_by, opposite as opposite_of, swapped as swapped_of, rel_at as rel_at_of};
+ghost use Rattle.transfer_rules.specs.Refining.{is_extension as is_extension_of, relation_of as relation_by};
+ghost use Rattle.transfer_rules.specs.Refining.{opposite as opposite_of, swapped as swapped_of, rel_at as rel_at_of};
 
 use alf_ops::Op;
 use domain_core::Rel;

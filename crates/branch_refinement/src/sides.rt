@@ -12,7 +12,8 @@ ghost use Rattle.pointer_rules.specs.AbstractValues.{HasSize};
 ghost use Rattle.pointer_rules.specs.Covering.{IsValue};
 ghost use Rattle.memory_model.specs.KeptMemories.{memory_in, rows_of, IsMemory};
 ghost use Rattle.transfer_rules.specs.Evaluating.{pointer_value, value_at};
-ghost use Rattle.transfer_rules.specs.Refining.{is_extension as is_extension_of, cell_of, cell_where as cell_where_of, loaded_cell, place_in, place_of, words_alone as words_alone_of};
+ghost use Rattle.transfer_rules.specs.Refining.{is_extension as is_extension_of, cell_of, cell_where as cell_where_of};
+ghost use Rattle.transfer_rules.specs.Refining.{loaded_cell, place_in, place_of, words_alone as words_alone_of};
 ghost use Rattle.step_statements.specs.Typed.{IsTyped};
 ghost use Rattle.branch_refinement.specs.Places.{seen_place};
 ghost use Rattle.branch_refinement.specs.Sides.{loaded_value, at_one, IsSide};
@@ -56,7 +57,9 @@ pub(crate) fn cell_where(
     size: u32,
 ) -> Option<(u32, u32)>
     requires { IsCellSize size }
-    ensures { result ≡ cell_where_of words (cell_of (rows_of memory.now.checked) (memory_in memory.now).runs size at.now.words at.now.places) }
+    ensures { result
+        ≡ cell_where_of words
+        (cell_of (rows_of memory.now.checked) (memory_in memory.now).runs size at.now.words at.now.places) }
 {
     match words {
         None => None,
@@ -74,8 +77,10 @@ fn load_from(
     requires kept { IsMemory memory.now }
     requires address { IfSome at.now (IsValue 32) }
     requires size { IsCellSize size }
-    ensures value { IfOk result (λ answer. answer.0 ≡ loaded_value (rows_of memory.now.checked) (memory_in memory.now) size at.now) }
-    ensures cell { IfOk result (λ answer. answer.1 ≡ loaded_cell (rows_of memory.now.checked) (memory_in memory.now) size at.now) }
+    ensures value { IfOk result
+        (λ answer. answer.0 ≡ loaded_value (rows_of memory.now.checked) (memory_in memory.now) size at.now) }
+    ensures cell { IfOk result
+        (λ answer. answer.1 ≡ loaded_cell (rows_of memory.now.checked) (memory_in memory.now) size at.now) }
 {
     match at {
         None => Ok((None, None)),
@@ -108,7 +113,10 @@ fn cell_for(
     size: u32,
 ) -> Option<(u32, u32)>
     requires { IsCellSize size }
-    ensures { result ≡ cell_where_of words (cell_of (rows_of memory.now.checked) (memory_in memory.now).runs size None ((frame, one_word 32 offset) ∷ [])) }
+    ensures { result
+        ≡ cell_where_of words
+        (cell_of (rows_of memory.now.checked) (memory_in memory.now).runs size None
+        ((frame, one_word 32 offset) ∷ [])) }
 {
     match words {
         None => None,
@@ -126,8 +134,12 @@ fn load_cell(
 ) -> Result<(Option<AVal>, Option<(u32, u32)>), AllocError>
     requires kept { IsMemory memory.now }
     requires size { IsCellSize size }
-    ensures value { IfOk result (λ answer. answer.0 ≡ loaded_value (rows_of memory.now.checked) (memory_in memory.now) size (Some (pointer_value frame offset))) }
-    ensures cell { IfOk result (λ answer. answer.1 ≡ loaded_cell (rows_of memory.now.checked) (memory_in memory.now) size (Some (pointer_value frame offset))) }
+    ensures value { IfOk result
+        (λ answer. answer.0
+        ≡ loaded_value (rows_of memory.now.checked) (memory_in memory.now) size (Some (pointer_value frame offset))) }
+    ensures cell { IfOk result
+        (λ answer. answer.1
+        ≡ loaded_cell (rows_of memory.now.checked) (memory_in memory.now) size (Some (pointer_value frame offset))) }
 {
     let (value, _) = memory.load_cell(alloc, frame, offset, size)?;
     let cell = cell_for(memory, words_of(&value), frame, offset, size);
@@ -143,8 +155,13 @@ fn load(
 ) -> Result<(Option<AVal>, Option<(u32, u32)>), AllocError>
     requires kept { IsMemory memory.now }
     requires typed { IsTyped (Load size (term_of at.now)) }
-    ensures value { IfOk result (λ answer. answer.0 ≡ (value_at (rows_of memory.now.checked) (memory_in memory.now) (Load size (term_of at.now))).left) }
-    ensures cell { IfOk result (λ answer. answer.1 ≡ loaded_cell (rows_of memory.now.checked) (memory_in memory.now) size (value_at (rows_of memory.now.checked) (memory_in memory.now) (term_of at.now)).left) }
+    ensures value { IfOk result
+        (λ answer. answer.0
+        ≡ (value_at (rows_of memory.now.checked) (memory_in memory.now) (Load size (term_of at.now))).left) }
+    ensures cell { IfOk result
+        (λ answer. answer.1
+        ≡ loaded_cell (rows_of memory.now.checked) (memory_in memory.now) size
+        (value_at (rows_of memory.now.checked) (memory_in memory.now) (term_of at.now)).left) }
 {
     if let Some((frame, offset)) = address_of(at) {
         return load_cell(alloc, memory, frame, offset, size);
@@ -163,8 +180,12 @@ fn read_load(
 ) -> Result<(Option<AVal>, Option<Place>), AllocError>
     requires kept { IsMemory memory.now }
     requires typed { IsTyped (Load size (term_of at.now)) }
-    ensures value { IfOk result (λ answer. answer.0 ≡ (value_at (rows_of memory.now.checked) (memory_in memory.now) (Load size (term_of at.now))).left) }
-    ensures place { IfOk result (λ answer. option_map seen_place answer.1 ≡ place_in (rows_of memory.now.checked) (memory_in memory.now) extended (Load size (term_of at.now))) }
+    ensures value { IfOk result
+        (λ answer. answer.0
+        ≡ (value_at (rows_of memory.now.checked) (memory_in memory.now) (Load size (term_of at.now))).left) }
+    ensures place { IfOk result
+        (λ answer. option_map seen_place answer.1
+        ≡ place_in (rows_of memory.now.checked) (memory_in memory.now) extended (Load size (term_of at.now))) }
 {
     let (value, cell) = load(alloc, memory, size, at)?;
     Ok((value, place_at(cell, size, extended)))
@@ -178,7 +199,8 @@ fn read_other(
 ) -> Result<(Option<AVal>, Option<Place>), AllocError>
     requires kept { IsMemory memory.now }
     requires typed { IsTyped (term_of term.now) }
-    ensures value { IfOk result (λ answer. answer.0 ≡ (value_at (rows_of memory.now.checked) (memory_in memory.now) (term_of term.now)).left) }
+    ensures value { IfOk result
+        (λ answer. answer.0 ≡ (value_at (rows_of memory.now.checked) (memory_in memory.now) (term_of term.now)).left) }
     ensures place { IfOk result (λ answer. answer.1 ≡ None) }
 {
     let (value, _) = evaluate(alloc, memory, term)?;
@@ -194,8 +216,11 @@ fn read(
 ) -> Result<(Option<AVal>, Option<Place>), AllocError>
     requires kept { IsMemory memory.now }
     requires typed { IsTyped (term_of term.now) }
-    ensures value { IfOk result (λ answer. answer.0 ≡ (value_at (rows_of memory.now.checked) (memory_in memory.now) (term_of term.now)).left) }
-    ensures place { IfOk result (λ answer. option_map seen_place answer.1 ≡ place_in (rows_of memory.now.checked) (memory_in memory.now) extended (term_of term.now)) }
+    ensures value { IfOk result
+        (λ answer. answer.0 ≡ (value_at (rows_of memory.now.checked) (memory_in memory.now) (term_of term.now)).left) }
+    ensures place { IfOk result
+        (λ answer. option_map seen_place answer.1
+        ≡ place_in (rows_of memory.now.checked) (memory_in memory.now) extended (term_of term.now)) }
 {
     match term {
         Term::Num(_) => read_other(alloc, memory, term),
@@ -237,7 +262,9 @@ fn extension_of(
     requires kept { IsMemory memory.now }
     requires typed { IsTyped (Apply op sizes.now (expressions_of (term_of operand.now ∷ []))) }
     requires extends { is_extension_of op ≡ true }
-    ensures { IfOk result (IsSide (rows_of memory.now.checked) (memory_in memory.now) (Apply op sizes.now (expressions_of (term_of operand.now ∷ [])))) }
+    ensures { IfOk result
+        (IsSide (rows_of memory.now.checked) (memory_in memory.now)
+        (Apply op sizes.now (expressions_of (term_of operand.now ∷ [])))) }
 {
     let (value, place) = read(alloc, memory, operand, true)?;
     let words = applied_words(alloc, op, sizes, value)?;
@@ -255,7 +282,9 @@ pub(crate) fn extension(
     requires kept { IsMemory memory.now }
     requires typed { IsTyped (Apply op sizes.now (expressions_of (map term_of operands.now))) }
     requires extends { is_extension_of op ≡ true }
-    ensures { IfOk result (IsSide (rows_of memory.now.checked) (memory_in memory.now) (Apply op sizes.now (expressions_of (map term_of operands.now)))) }
+    ensures { IfOk result
+        (IsSide (rows_of memory.now.checked) (memory_in memory.now)
+        (Apply op sizes.now (expressions_of (map term_of operands.now)))) }
 {
     match operands {
         [] => unreachable!(),
@@ -268,7 +297,8 @@ pub(crate) fn extension(
 fn unextended(alloc: Global, memory: &AMem<'_>, term: &Term) -> Result<Side, AllocError>
     requires kept { IsMemory memory.now }
     requires typed { IsTyped (term_of term.now) }
-    requires place { place_in (rows_of memory.now.checked) (memory_in memory.now) false (term_of term.now) ≡ place_of (rows_of memory.now.checked) (memory_in memory.now) (term_of term.now) }
+    requires place { place_in (rows_of memory.now.checked) (memory_in memory.now) false (term_of term.now)
+        ≡ place_of (rows_of memory.now.checked) (memory_in memory.now) (term_of term.now) }
     ensures { IfOk result (IsSide (rows_of memory.now.checked) (memory_in memory.now) (term_of term.now)) }
 {
     let (value, place) = read(alloc, memory, term, false)?;

@@ -41,8 +41,12 @@ fn given_cell(
 ) -> Result<Option<(u32, u32)>, AllocError>
     requires kept { IsMemory memory.now }
     requires typed { IsTyped (Load size (term_of at.now)) }
-    requires given { (value_at (rows_of memory.now.checked) (memory_in memory.now) (Load size (term_of at.now))).left ≡ Some given.now }
-    ensures { IfOk result (λ cell. cell ≡ loaded_cell (rows_of memory.now.checked) (memory_in memory.now) size (value_at (rows_of memory.now.checked) (memory_in memory.now) (term_of at.now)).left) }
+    requires given { (value_at (rows_of memory.now.checked) (memory_in memory.now) (Load size (term_of at.now))).left
+        ≡ Some given.now }
+    ensures { IfOk result
+        (λ cell. cell
+        ≡ loaded_cell (rows_of memory.now.checked) (memory_in memory.now) size
+        (value_at (rows_of memory.now.checked) (memory_in memory.now) (term_of at.now)).left) }
 {
     let (at, _) = evaluate(alloc, memory, at)?;
     match at {
@@ -61,8 +65,10 @@ fn of_load(
 ) -> Result<Told, AllocError>
     requires kept { IsMemory memory.now }
     requires typed { IsTyped (Load size (term_of at.now)) }
-    requires given { (value_at (rows_of memory.now.checked) (memory_in memory.now) (Load size (term_of at.now))).left ≡ Some given.now }
-    ensures { IfOk result (IsRefinement (rows_of memory.now.checked) (memory_in memory.now) (Load size (term_of at.now))) }
+    requires given { (value_at (rows_of memory.now.checked) (memory_in memory.now) (Load size (term_of at.now))).left
+        ≡ Some given.now }
+    ensures { IfOk result
+        (IsRefinement (rows_of memory.now.checked) (memory_in memory.now) (Load size (term_of at.now))) }
 {
     let cell = given_cell(alloc, memory, size, at, given)?;
     Ok(Told::of(by_place(place_at(cell, size, false))))
@@ -79,7 +85,9 @@ fn of_extension(
     requires kept { IsMemory memory.now }
     requires typed { IsTyped (Apply op sizes.now (expressions_of (map term_of operands.now))) }
     requires extends { is_extension_of op ≡ true }
-    ensures { IfOk result (IsRefinement (rows_of memory.now.checked) (memory_in memory.now) (Apply op sizes.now (expressions_of (map term_of operands.now)))) }
+    ensures { IfOk result
+        (IsRefinement (rows_of memory.now.checked) (memory_in memory.now)
+        (Apply op sizes.now (expressions_of (map term_of operands.now)))) }
 {
     let side = extension(alloc, memory, op, sizes, operands)?;
     Ok(Told::of(by_place(side.place)))
@@ -96,7 +104,8 @@ fn of_comparison(
     requires kept { IsMemory memory.now }
     requires first { IsTyped (term_of first.now) }
     requires second { IsTyped (term_of second.now) }
-    ensures { IfOk result (IsComparing (rows_of memory.now.checked) (memory_in memory.now) rel (term_of first.now) (term_of second.now)) }
+    ensures { IfOk result
+        (IsComparing (rows_of memory.now.checked) (memory_in memory.now) rel (term_of first.now) (term_of second.now)) }
 {
     let left = side_of(alloc, memory, first)?;
     let right = side_of(alloc, memory, second)?;
@@ -114,7 +123,9 @@ fn of_operator(
     requires kept { IsMemory memory.now }
     requires typed { IsTyped (Apply op sizes.now (expressions_of (map term_of operands.now))) }
     requires extends { is_extension_of op ≡ false }
-    ensures { IfOk result (IsRefinement (rows_of memory.now.checked) (memory_in memory.now) (Apply op sizes.now (expressions_of (map term_of operands.now)))) }
+    ensures { IfOk result
+        (IsRefinement (rows_of memory.now.checked) (memory_in memory.now)
+        (Apply op sizes.now (expressions_of (map term_of operands.now)))) }
 {
     let Some(rel) = relation_of(op) else {
         return Ok(Told::of(Refinement::Nothing));
@@ -136,7 +147,8 @@ pub(crate) fn told_by(
 ) -> Result<Told, AllocError>
     requires kept { IsMemory memory.now }
     requires typed { IsTyped (term_of term.now) }
-    requires given { (value_at (rows_of memory.now.checked) (memory_in memory.now) (term_of term.now)).left ≡ Some given.now }
+    requires given { (value_at (rows_of memory.now.checked) (memory_in memory.now) (term_of term.now)).left
+        ≡ Some given.now }
     ensures { IfOk result (IsRefinement (rows_of memory.now.checked) (memory_in memory.now) (term_of term.now)) }
 {
     match term {

@@ -30,12 +30,14 @@ file_known known file = ap (λ (scopes : List Scope). record { words = known.wor
 abbrev pub begun : List Word → Scope → Outcome → ℕ → List Parameter → Known
 begun words scope o name params = record { words = words; scopes = with_parameters [] params ∷ (record { token = name; bound = function_of o params } ∷ scope) ∷ [] }
 
-pub head_known : (known : Known) (o : Outcome) (name : ℕ) (params : List Parameter) → IsFile known → with_head o name params known ≡ begun known.words (innermost known.scopes) o name params
+pub head_known : (known : Known) (o : Outcome) (name : ℕ) (params : List Parameter) → IsFile known
+    → with_head o name params known ≡ begun known.words (innermost known.scopes) o name params
 head_known known o name params file =
     ap (with_head o name params) (file_known known file) ∙ params_known known.words [] ((record { token = name; bound = function_of o params } ∷ innermost known.scopes) ∷ []) params
 
 -- what is told after a part without faults
-pub tells_after : {A : Type 0} (result : Result A Stop) (xs ys whole : List Fault) → xs ≡ [] → xs ++ ys ≡ whole → Tells result ys → Tells result whole
+pub tells_after : {A : Type 0} (result : Result A Stop) (xs ys whole : List Fault) → xs ≡ [] → xs ++ ys ≡ whole
+    → Tells result ys → Tells result whole
 tells_after (Ok value) xs ys whole none is told = sym is ∙ ap (λ (zs : List Fault). zs ++ ys) none ∙ told
 tells_after (Err (stops.Fault fault)) xs ys whole none is told = sym (ap earliest is) ∙ ap (λ (zs : List Fault). earliest (zs ++ ys)) none ∙ told
 tells_after (Err stops.Memory) xs ys whole none is told = tt
@@ -48,7 +50,8 @@ module _ (words : List Word) (defined : List ℕ) (file : File) (first : ℕ) (o
   rest_faults = params_faults words [] params ++ (declared_faults first o params (named words name file.scope) ++ body_faults)
 
   -- a second definition is wrong
-  pub defined_again : is_defined words file.made name ≡ true → earliest (external_faults words defined file (Definition first o name params body)) ≡ Some (Duplicate name)
+  pub defined_again : is_defined words file.made name ≡ true
+      → earliest (external_faults words defined file (Definition first o name params body)) ≡ Some (Duplicate name)
   defined_again again = ap (λ (b : Bool). earliest ((if b then Duplicate name ∷ [] else object_faults name (named words name file.scope)) ++ rest_faults)) again
 
   -- the faults of the head, and then those of the body

@@ -26,7 +26,8 @@ use Rattle.c_check.specs.Progress.{file_at}
 abbrev pub start : File
 start = record { scope = []; made = [] }
 
-pub record IsUnderWay (words : List Word) (names : List ℕ) (all rest : List ExternalTree) (count : ℕ) (known : Known) : Type 0 where
+pub record IsUnderWay (words : List Word) (names : List ℕ) (all rest : List ExternalTree) (count : ℕ)
+    (known : Known) : Type 0 where
   pub file : IsFile known
   pub words_same : known.words ≡ words
   pub faults : externals_faults words names start all ≡ externals_faults words names (file_at known names count) rest
@@ -34,19 +35,22 @@ pub record IsUnderWay (words : List Word) (names : List ℕ) (all rest : List Ex
 
 -- ---- names after a count
 
-take_next : (names : List ℕ) (count name : ℕ) (more : List ℕ) → drop count names ≡ name ∷ more → take (suc count) names ≡ take count names ++ name ∷ []
+take_next : (names : List ℕ) (count name : ℕ) (more : List ℕ) → drop count names ≡ name ∷ more
+    → take (suc count) names ≡ take count names ++ name ∷ []
 take_next [] zero name more left = cc
 take_next [] (suc count) name more left = cc
 take_next (x ∷ xs) zero name more left = cc
 take_next (x ∷ xs) (suc count) name more left = ap (λ (ys : List ℕ). x ∷ ys) (take_next xs count name more left)
 
-drop_next : (names : List ℕ) (count name : ℕ) (more : List ℕ) → drop count names ≡ name ∷ more → drop (suc count) names ≡ more
+drop_next : (names : List ℕ) (count name : ℕ) (more : List ℕ) → drop count names ≡ name ∷ more
+    → drop (suc count) names ≡ more
 drop_next [] zero name more left = cc
 drop_next [] (suc count) name more left = cc
 drop_next (x ∷ xs) zero name more left = cc
 drop_next (x ∷ xs) (suc count) name more left = drop_next xs count name more left
 
-room_next : (names : List ℕ) (count name : ℕ) (more : List ℕ) → drop count names ≡ name ∷ more → suc count ≤ length names
+room_next : (names : List ℕ) (count name : ℕ) (more : List ℕ) → drop count names ≡ name ∷ more
+    → suc count ≤ length names
 room_next [] zero name more left = cc
 room_next [] (suc count) name more left = cc
 room_next (x ∷ xs) zero name more left = omega arith
@@ -61,14 +65,16 @@ made_kept : (o : Outcome) (file : File) (ds : List DeclaratorTree) → (with_dec
 made_kept o file [] = refl
 made_kept o file (d ∷ ds) = made_kept o (with_global file d.name (global_bound o d.shape)) ds
 
-made_after : (names : List ℕ) (count : ℕ) (known : Known) (x : ExternalTree) (xs : List ExternalTree) → drop count names ≡ definitions (x ∷ xs)
+made_after : (names : List ℕ) (count : ℕ) (known : Known) (x : ExternalTree) (xs : List ExternalTree)
+    → drop count names ≡ definitions (x ∷ xs)
     → (external_after (file_at known names count) x).made ≡ reverse (take (count + length (made_by x)) names)
 made_after names count known (Declaration first o ds) xs left = let same : count + 0 ≡ count = omega arith in rw same (made_kept o (file_at known names count) ds)
 made_after names count known (Definition first o name params body) xs left =
     let same : count + 1 ≡ suc count = omega arith in
     rw (same, take_next names count name (definitions xs) left) (sym (reverse-append (take count names) (name ∷ [])))
 
-left_after : (names : List ℕ) (count : ℕ) (x : ExternalTree) (xs : List ExternalTree) → drop count names ≡ definitions (x ∷ xs) → drop (count + length (made_by x)) names ≡ definitions xs
+left_after : (names : List ℕ) (count : ℕ) (x : ExternalTree) (xs : List ExternalTree)
+    → drop count names ≡ definitions (x ∷ xs) → drop (count + length (made_by x)) names ≡ definitions xs
 left_after names count (Declaration first o ds) xs left = let same : count + 0 ≡ count = omega arith in rw same left
 left_after names count (Definition first o name params body) xs left = let same : count + 1 ≡ suc count = omega arith in rw same (drop_next names count name (definitions xs) left)
 
@@ -108,9 +114,11 @@ module _ (words : List Word) (names : List ℕ) (all : List ExternalTree) where
       let here = subst (λ ws. Tells {A = ⊤} (Err stop) (external_faults ws names file x)) way.words_same told in
       subst (λ (faults : List Fault). Tells {A = ⊤} (Err stop) faults) (sym way.faults) (first_stop stop (external_faults words names file x) (externals_faults words names (external_after file x) xs) here)
 
-  pub ends : (count : ℕ) (known : Known) → IsUnderWay words names all [] count known → externals_faults words names start all ≡ []
+  pub ends : (count : ℕ) (known : Known) → IsUnderWay words names all [] count known
+      → externals_faults words names start all ≡ []
   ends count known way = way.faults
 
-  pub within : (x : ExternalTree) (xs : List ExternalTree) (count : ℕ) → drop count names ≡ definitions (x ∷ xs) → count ≤ length names → count + length (made_by x) ≤ length names
+  pub within : (x : ExternalTree) (xs : List ExternalTree) (count : ℕ) → drop count names ≡ definitions (x ∷ xs)
+      → count ≤ length names → count + length (made_by x) ≤ length names
   within (Declaration first o ds) xs count left low = omega arith
   within (Definition first o name params body) xs count left low = let next = room_next names count name (definitions xs) left in omega arith

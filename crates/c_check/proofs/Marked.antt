@@ -17,7 +17,8 @@ pub turned : (xs : List ℕ) (n : ℕ) → list_any (λ k. n == k) xs ≡ is_lab
 turned xs n = any_same xs n ∙ list_any-IsPermutation (λ k. k == n) xs (reverse xs) (IsPermutation-reverse xs)
 
 -- a constant that is new goes last
-pub one_more : (xs after : List ℕ) (n : ℕ) → is_label (reverse xs) n ≡ false → after ≡ (if list_any (λ k. n == k) xs then xs else xs ++ n ∷ []) → reverse after ≡ n ∷ reverse xs
+pub one_more : (xs after : List ℕ) (n : ℕ) → is_label (reverse xs) n ≡ false
+    → after ≡ (if list_any (λ k. n == k) xs then xs else xs ++ n ∷ []) → reverse after ≡ n ∷ reverse xs
 one_more xs after n new is =
     let none : list_any (λ k. n == k) xs ≡ false = turned xs n ∙ new in
     ap (λ (ys : List ℕ). reverse ys) (is ∙ ap (λ (b : Bool). if b then xs else xs ++ n ∷ []) none) ∙ reverse-append xs (n ∷ [])

@@ -18,7 +18,8 @@ pub if_tree : (condition : Expr) (body : Box Stmt Global) (otherwise : Option (B
 if_tree condition body None = ap statement_of (sym (rolls-If condition body None)) ∙ fold-roll-Stmt Statement statement_step (stmts.If condition body None)
 if_tree condition body (Some otherwise) = ap statement_of (sym (rolls-If condition body (Some otherwise))) ∙ fold-roll-Stmt Statement statement_step (stmts.If condition body (Some otherwise))
 
-pub if_calls : (condition : Expression) (body : Statement) (otherwise : Option Statement) → calls_in (if_of condition body otherwise) ≡ calls_in body ++ calls_if_stated otherwise
+pub if_calls : (condition : Expression) (body : Statement) (otherwise : Option Statement)
+    → calls_in (if_of condition body otherwise) ≡ calls_in body ++ calls_if_stated otherwise
 if_calls condition body None = sym (append-nil (calls_in body))
 if_calls condition body (Some otherwise) = refl
 
@@ -28,6 +29,7 @@ pub for_tree :
 for_tree None condition done body = ap statement_of (sym (rolls-For None condition done body)) ∙ fold-roll-Stmt Statement statement_step (stmts.For None condition done body)
 for_tree (Some first) condition done body = ap statement_of (sym (rolls-For (Some first) condition done body)) ∙ fold-roll-Stmt Statement statement_step (stmts.For (Some first) condition done body)
 
-pub for_calls : (first : Option Statement) (condition : Option Expression) (done : Option EffectTree) (body : Statement) → calls_in (for_of first condition done body) ≡ calls_if_stated first ++ (calls_if_done done ++ calls_in body)
+pub for_calls : (first : Option Statement) (condition : Option Expression) (done : Option EffectTree) (body : Statement)
+    → calls_in (for_of first condition done body) ≡ calls_if_stated first ++ (calls_if_done done ++ calls_in body)
 for_calls None condition _ body = refl
 for_calls (Some first) condition _ body = refl

@@ -13,14 +13,16 @@ use Rattle.c_check.specs.declared.place.Place.{Place}
 use Rattle.c_check.specs.Surroundings.{Marks, around_of}
 use Rattle.c_check.specs.Afterwards.{Stays, known_after}
 
-pub record IsUnderWay (defined : List ℕ) (place : Place) (all rest : List Stmt) (before now : Known) (marks labels : Marks) : Type 0 where
+pub record IsUnderWay (defined : List ℕ) (place : Place) (all rest : List Stmt) (before now : Known)
+    (marks labels : Marks) : Type 0 where
   pub stays : Stays before now
   pub faults : statements_faults before.words defined (around_of place marks) before.scopes (statements_of (map statement_of all))
       ≡ statements_faults before.words defined (around_of place labels) now.scopes (statements_of (map statement_of rest))
 
 -- ---- scopes
 
-other_locals : (kind : Integer) (scopes : List Scope) (locals : List LocalTree) → others (with_locals kind scopes locals) ≡ others scopes
+other_locals : (kind : Integer) (scopes : List Scope) (locals : List LocalTree)
+    → others (with_locals kind scopes locals) ≡ others scopes
 other_locals kind scopes [] = refl
 other_locals kind [] (local ∷ locals) = other_locals kind (with_local kind [] local) locals
 other_locals kind (scope ∷ scopes) (local ∷ locals) = other_locals kind (with_local kind (scope ∷ scopes) local) locals

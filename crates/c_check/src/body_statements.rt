@@ -27,7 +27,9 @@ pub fn check_body(
     body: &[Stmt],
 ) -> Result<(), Stop>
     requires { functions.now.words ≡ scopes.old.words }
-    ensures tells { Tells result (statements_faults scopes.old.words functions.now.names (in_function given) scopes.old.scopes (statements_of (map statement_of body.now))) }
+    ensures tells { Tells result
+        (statements_faults scopes.old.words functions.now.names (in_function given) scopes.old.scopes
+        (statements_of (map statement_of body.now))) }
     ensures stays { OnOk result (Stays scopes.old scopes.new) }
 {
     let mut labels = Labels::new(alloc);
@@ -53,7 +55,9 @@ fn check_row(
     row: &[Stmt],
 ) -> Result<(), Stop>
     requires { functions.now.words ≡ scopes.old.words }
-    ensures tells { Tells result (statements_faults scopes.old.words functions.now.names (around_of place labels.old) scopes.old.scopes (statements_of (map statement_of row.now))) }
+    ensures tells { Tells result
+        (statements_faults scopes.old.words functions.now.names (around_of place labels.old) scopes.old.scopes
+        (statements_of (map statement_of row.now))) }
     ensures stays { OnOk result (Stays scopes.old scopes.new) }
 {
     for statement in row {
@@ -72,7 +76,9 @@ fn check_block(
     row: &[Stmt],
 ) -> Result<(), Stop>
     requires { functions.now.words ≡ scopes.old.words }
-    ensures tells { Tells result (statements_faults scopes.old.words functions.now.names (around_of place no_marks) ([] ∷ scopes.old.scopes) (statements_of (map statement_of row.now))) }
+    ensures tells { Tells result
+        (statements_faults scopes.old.words functions.now.names (around_of place no_marks) ([] ∷ scopes.old.scopes)
+        (statements_of (map statement_of row.now))) }
     ensures same { OnOk result (scopes.new ≡ scopes.old) }
 {
     scopes.enter()?;
@@ -92,7 +98,9 @@ fn check_part(
     part: &Stmt,
 ) -> Result<(), Stop>
     requires { functions.now.words ≡ scopes.old.words }
-    ensures tells { Tells result (statement_faults scopes.old.words functions.now.names (around_of place no_marks) ([] ∷ scopes.old.scopes) (statement_of part.now)) }
+    ensures tells { Tells result
+        (statement_faults scopes.old.words functions.now.names (around_of place no_marks) ([] ∷ scopes.old.scopes)
+        (statement_of part.now)) }
     ensures same { OnOk result (scopes.new ≡ scopes.old) }
 {
     scopes.enter()?;
@@ -113,9 +121,13 @@ fn check_statement(
     statement: &Stmt,
 ) -> Result<(), Stop>
     requires { functions.now.words ≡ scopes.old.words }
-    ensures tells { Tells result (statement_faults scopes.old.words functions.now.names (around_of place labels.old) scopes.old.scopes (statement_of statement.now)) }
+    ensures tells { Tells result
+        (statement_faults scopes.old.words functions.now.names (around_of place labels.old) scopes.old.scopes
+        (statement_of statement.now)) }
     ensures known { OnOk result (scopes.new ≡ known_after scopes.old (statement_of statement.now)) }
-    ensures around { OnOk result (around_of place labels.new ≡ around_after scopes.old.words (around_of place labels.old) (statement_of statement.now)) }
+    ensures around { OnOk result
+        (around_of place labels.new
+        ≡ around_after scopes.old.words (around_of place labels.old) (statement_of statement.now)) }
 {
     match statement {
         Stmt::Empty(_) => Ok(()),
@@ -162,7 +174,9 @@ fn check_if(
     condition: &Expr,
 ) -> Result<(), Stop>
     requires { functions.now.words ≡ scopes.old.words }
-    ensures tells { Tells result (statement_faults scopes.old.words functions.now.names (around_of place no_marks) scopes.old.scopes (If (expression_of condition.now) (statement_of body.now))) }
+    ensures tells { Tells result
+        (statement_faults scopes.old.words functions.now.names (around_of place no_marks) scopes.old.scopes
+        (If (expression_of condition.now) (statement_of body.now))) }
     ensures same { OnOk result (scopes.new ≡ scopes.old) }
 {
     check_condition(scopes, condition)?;
@@ -182,7 +196,9 @@ fn check_turns(
     after: &Option<Effect>,
 ) -> Result<(), Stop>
     requires { functions.now.words ≡ scopes.old.words }
-    ensures tells { Tells result (statement_faults scopes.old.words functions.now.names (around_of place no_marks) scopes.old.scopes (For (option_map expression_of condition.now) (option_map effect_of after.now) (statement_of body.now))) }
+    ensures tells { Tells result
+        (statement_faults scopes.old.words functions.now.names (around_of place no_marks) scopes.old.scopes
+        (For (option_map expression_of condition.now) (option_map effect_of after.now) (statement_of body.now))) }
     ensures same { OnOk result (scopes.new ≡ scopes.old) }
 {
     check_if_condition(scopes, condition)?;
@@ -202,7 +218,9 @@ fn check_while(
     condition: &Expr,
 ) -> Result<(), Stop>
     requires { functions.now.words ≡ scopes.old.words }
-    ensures tells { Tells result (statement_faults scopes.old.words functions.now.names (around_of place no_marks) scopes.old.scopes (While (expression_of condition.now) (statement_of body.now))) }
+    ensures tells { Tells result
+        (statement_faults scopes.old.words functions.now.names (around_of place no_marks) scopes.old.scopes
+        (While (expression_of condition.now) (statement_of body.now))) }
     ensures same { OnOk result (scopes.new ≡ scopes.old) }
 {
     check_condition(scopes, condition)?;
@@ -221,7 +239,9 @@ fn check_do(
     condition: &Expr,
 ) -> Result<(), Stop>
     requires { functions.now.words ≡ scopes.old.words }
-    ensures tells { Tells result (statement_faults scopes.old.words functions.now.names (around_of place no_marks) scopes.old.scopes (Do (statement_of body.now) (expression_of condition.now))) }
+    ensures tells { Tells result
+        (statement_faults scopes.old.words functions.now.names (around_of place no_marks) scopes.old.scopes
+        (Do (statement_of body.now) (expression_of condition.now))) }
     ensures same { OnOk result (scopes.new ≡ scopes.old) }
 {
     check_part(alloc, functions, scopes, in_loop(place), body)?;
@@ -240,7 +260,9 @@ fn check_switch(
     value: &Expr,
 ) -> Result<(), Stop>
     requires { functions.now.words ≡ scopes.old.words }
-    ensures tells { Tells result (statement_faults scopes.old.words functions.now.names (around_of place no_marks) scopes.old.scopes (Switch (expression_of value.now) (statements_of (map statement_of body.now)))) }
+    ensures tells { Tells result
+        (statement_faults scopes.old.words functions.now.names (around_of place no_marks) scopes.old.scopes
+        (Switch (expression_of value.now) (statements_of (map statement_of body.now)))) }
     ensures same { OnOk result (scopes.new ≡ scopes.old) }
 {
     check_condition(scopes, value)?;

@@ -19,7 +19,10 @@ pub fn note_statements(
     body: &[Stmt],
 ) -> Result<(), AllocError>
     requires { length functions.now.names < 2 ^ 32 }
-    ensures { OnOk result (row.new.items ≡ row.old.items ++ numbers_at functions.now.words functions.now.names (called_in (statements_of (map statement_of body.now)))) }
+    ensures { OnOk result
+        (row.new.items
+        ≡ row.old.items
+        ++ numbers_at functions.now.words functions.now.names (called_in (statements_of (map statement_of body.now)))) }
 {
     for s in body {
         note_statement(functions, row, s)?;
@@ -36,7 +39,9 @@ fn note_statement(
     s: &Stmt,
 ) -> Result<(), AllocError>
     requires { length functions.now.names < 2 ^ 32 }
-    ensures { OnOk result (row.new.items ≡ row.old.items ++ numbers_at functions.now.words functions.now.names (calls_in (statement_of s.now))) }
+    ensures { OnOk result
+        (row.new.items
+        ≡ row.old.items ++ numbers_at functions.now.words functions.now.names (calls_in (statement_of s.now))) }
 {
     match s {
         Stmt::Empty(_) => Ok(()),
@@ -73,7 +78,9 @@ fn note_if_stated(
     s: &Option<Box<Stmt>>,
 ) -> Result<(), AllocError>
     requires { length functions.now.names < 2 ^ 32 }
-    ensures { OnOk result (row.new.items ≡ row.old.items ++ numbers_at functions.now.words functions.now.names (calls_if_stated (stated s.now))) }
+    ensures { OnOk result
+        (row.new.items
+        ≡ row.old.items ++ numbers_at functions.now.words functions.now.names (calls_if_stated (stated s.now))) }
 {
     match s {
         Some(s) => note_statement(functions, row, s),

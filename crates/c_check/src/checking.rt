@@ -21,8 +21,8 @@ use flow_base::Name;
 use graph_walks::{CallFault, ranked_calls_have_no_cycle};
 use std::alloc::Global;
 
-/// The unit, which some text spells, as a program whose root has this name, or why it is none. The unit is given up. Takes memory for the
-/// names, the scopes around each place, and the calls.
+/// The unit, which some text spells, as a program whose root has this name, or why it is none. The unit is given up.
+/// Takes memory for the names, the scopes around each place, and the calls.
 pub fn check(alloc: Global, unit: CUnit, root: &str) -> Result<CProgram, CFault>
     requires { IsSpelled (unit_of unit) }
     ensures passes { OnOk result (PassesChecks (unit_of unit) root.now) }

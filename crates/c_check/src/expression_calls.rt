@@ -3,7 +3,8 @@
 ghost use Rattle.std.specs.Prelude.{◌≡◌, ◌<◌, ◌^◌, ◌++◌, map, length, OnOk};
 ghost use Rattle.std.specs.Option.{option_map};
 ghost use Rattle.c_unit.specs.Tree.{value_of, effect_of, local_of, local_shape_of};
-ghost use Rattle.c_rules.specs.Recursion.{calls_in_value, calls_if_valued, calls_in_effect, calls_if_done, calls_in_shape, calls_in_locals, numbers_at};
+ghost use Rattle.c_rules.specs.Recursion.{calls_in_value, calls_if_valued, calls_in_effect, calls_if_done};
+ghost use Rattle.c_rules.specs.Recursion.{calls_in_shape, calls_in_locals, numbers_at};
 
 use crate::noting::note;
 use c_scopes::Definitions;
@@ -17,7 +18,9 @@ pub fn note_value(
     value: &Value,
 ) -> Result<(), AllocError>
     requires { length functions.now.names < 2 ^ 32 }
-    ensures { OnOk result (row.new.items ≡ row.old.items ++ numbers_at functions.now.words functions.now.names (calls_in_value (value_of value.now))) }
+    ensures { OnOk result
+        (row.new.items
+        ≡ row.old.items ++ numbers_at functions.now.words functions.now.names (calls_in_value (value_of value.now))) }
 {
     match value {
         Value::Expr(_) => Ok(()),
@@ -32,7 +35,10 @@ pub fn note_if_valued(
     value: &Option<Value>,
 ) -> Result<(), AllocError>
     requires { length functions.now.names < 2 ^ 32 }
-    ensures { OnOk result (row.new.items ≡ row.old.items ++ numbers_at functions.now.words functions.now.names (calls_if_valued (option_map value_of value.now))) }
+    ensures { OnOk result
+        (row.new.items
+        ≡ row.old.items
+        ++ numbers_at functions.now.words functions.now.names (calls_if_valued (option_map value_of value.now))) }
 {
     match value {
         Some(value) => note_value(functions, row, value),
@@ -47,7 +53,10 @@ pub fn note_effect(
     effect: &Effect,
 ) -> Result<(), AllocError>
     requires { length functions.now.names < 2 ^ 32 }
-    ensures { OnOk result (row.new.items ≡ row.old.items ++ numbers_at functions.now.words functions.now.names (calls_in_effect (effect_of effect.now))) }
+    ensures { OnOk result
+        (row.new.items
+        ≡ row.old.items
+        ++ numbers_at functions.now.words functions.now.names (calls_in_effect (effect_of effect.now))) }
 {
     match effect {
         Effect::Assign(_, _, value) => note_value(functions, row, value),
@@ -64,7 +73,10 @@ pub fn note_if_done(
     effect: &Option<Effect>,
 ) -> Result<(), AllocError>
     requires { length functions.now.names < 2 ^ 32 }
-    ensures { OnOk result (row.new.items ≡ row.old.items ++ numbers_at functions.now.words functions.now.names (calls_if_done (option_map effect_of effect.now))) }
+    ensures { OnOk result
+        (row.new.items
+        ≡ row.old.items
+        ++ numbers_at functions.now.words functions.now.names (calls_if_done (option_map effect_of effect.now))) }
 {
     match effect {
         Some(effect) => note_effect(functions, row, effect),
@@ -79,7 +91,10 @@ fn note_shape(
     shape: &LocalShape,
 ) -> Result<(), AllocError>
     requires { length functions.now.names < 2 ^ 32 }
-    ensures { OnOk result (row.new.items ≡ row.old.items ++ numbers_at functions.now.words functions.now.names (calls_in_shape (local_shape_of shape.now))) }
+    ensures { OnOk result
+        (row.new.items
+        ≡ row.old.items
+        ++ numbers_at functions.now.words functions.now.names (calls_in_shape (local_shape_of shape.now))) }
 {
     match shape {
         LocalShape::Integer(first) => note_if_valued(functions, row, first),
@@ -96,7 +111,10 @@ pub fn note_locals(
     locals: &[Local],
 ) -> Result<(), AllocError>
     requires { length functions.now.names < 2 ^ 32 }
-    ensures { OnOk result (row.new.items ≡ row.old.items ++ numbers_at functions.now.words functions.now.names (calls_in_locals (map local_of locals.now))) }
+    ensures { OnOk result
+        (row.new.items
+        ≡ row.old.items
+        ++ numbers_at functions.now.words functions.now.names (calls_in_locals (map local_of locals.now))) }
 {
     for local in locals {
         note_shape(functions, row, &local.shape)?;

@@ -46,8 +46,13 @@ fn check_external(
 ) -> Result<(), Stop>
     requires words { functions.now.words ≡ scopes.old.words }
     requires file { IsFile scopes.old }
-    ensures tells { Tells result (external_faults scopes.old.words functions.now.names (file_at scopes.old functions.now.names count) (external_of external.now)) }
-    ensures known { OnOk result (scopes.new ≡ known_at scopes.old.words (external_after (file_at scopes.old functions.now.names count) (external_of external.now)).scope) }
+    ensures tells { Tells result
+        (external_faults scopes.old.words functions.now.names (file_at scopes.old functions.now.names count)
+        (external_of external.now)) }
+    ensures known { OnOk result
+        (scopes.new
+        ≡ known_at scopes.old.words
+        (external_after (file_at scopes.old functions.now.names count) (external_of external.now)).scope) }
 {
     match external {
         External::Declare(first, given, declarators) => {
@@ -61,7 +66,8 @@ fn check_external(
 
 // How many definitions stand before what is next; there are no more than all.
 fn count_after(functions: &Definitions<'_>, count: usize, external: &External) -> usize
-    ensures { count + length (made_by (external_of external.now)) ≤ length functions.now.names → result ≡ count + length (made_by (external_of external.now)) }
+    ensures { count + length (made_by (external_of external.now)) ≤ length functions.now.names
+        → result ≡ count + length (made_by (external_of external.now)) }
 {
     match external {
         External::Declare(_, _, _) => count,

@@ -13,7 +13,8 @@ use c_unit::{Effect, Expr};
 
 /// A condition, if there is one.
 pub fn check_if_condition(scopes: &Scopes<'_>, condition: &Option<Expr>) -> Result<(), Fault>
-    ensures told { told result ≡ earliest (if_condition scopes.now.words scopes.now.scopes (option_map expression_of condition.now)) }
+    ensures told { told result
+        ≡ earliest (if_condition scopes.now.words scopes.now.scopes (option_map expression_of condition.now)) }
 {
     match condition {
         None => Ok(()),
@@ -28,7 +29,9 @@ pub fn check_if_effect(
     effect: &Option<Effect>,
 ) -> Result<(), Fault>
     requires { functions.now.words ≡ scopes.now.words }
-    ensures told { told result ≡ earliest (if_effect scopes.now.words functions.now.names scopes.now.scopes (option_map effect_of effect.now)) }
+    ensures told { told result
+        ≡ earliest
+        (if_effect scopes.now.words functions.now.names scopes.now.scopes (option_map effect_of effect.now)) }
 {
     match effect {
         None => Ok(()),

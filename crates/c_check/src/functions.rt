@@ -29,8 +29,14 @@ pub fn check_function(
 ) -> Result<(), Stop>
     requires words { functions.now.words ≡ scopes.old.words }
     requires file { IsFile scopes.old }
-    ensures tells { Tells result (external_faults scopes.old.words functions.now.names (file_at scopes.old functions.now.names count) (Definition first given name params.now (map statement_of body.now))) }
-    ensures known { OnOk result (scopes.new ≡ known_at scopes.old.words (external_after (file_at scopes.old functions.now.names count) (Definition first given name params.now (map statement_of body.now))).scope) }
+    ensures tells { Tells result
+        (external_faults scopes.old.words functions.now.names (file_at scopes.old functions.now.names count)
+        (Definition first given name params.now (map statement_of body.now))) }
+    ensures known { OnOk result
+        (scopes.new
+        ≡ known_at scopes.old.words
+        (external_after (file_at scopes.old functions.now.names count)
+        (Definition first given name params.now (map statement_of body.now))).scope) }
 {
     if functions.is_defined_before(count, name) {
         return Err(Stop::Fault(Fault::Duplicate(name)));

@@ -59,7 +59,8 @@ impl Labels {
     /// One constant more, which is not one of them yet.
     pub fn add(&mut self, constant: u32) -> Result<(), AllocError>
         requires { is_label self.old.labels constant ≡ false }
-        ensures { OnOk result (self.new ≡ record { labels = constant ∷ self.old.labels; has_default = self.old.has_default }) }
+        ensures { OnOk result
+            (self.new ≡ record { labels = constant ∷ self.old.labels; has_default = self.old.has_default }) }
     {
         self.constants.insert(constant)?;
         Ok(())

@@ -23,7 +23,9 @@ pub fn check_case(
     constant: Constant,
 ) -> Result<(), Stop>
     ensures tells { Tells result (when (is_label labels.old.labels (label_of words.now constant)) (Mistyped token)) }
-    ensures marked { OnOk result (labels.new ≡ record { labels = label_of words.now constant ∷ labels.old.labels; has_default = labels.old.has_default }) }
+    ensures marked { OnOk result
+        (labels.new
+        ≡ record { labels = label_of words.now constant ∷ labels.old.labels; has_default = labels.old.has_default }) }
 {
     let label = label_of(words, constant);
     if labels.has(label) {
@@ -65,7 +67,9 @@ pub fn check_return(
     value: &Option<Value>,
 ) -> Result<(), Stop>
     requires { functions.now.words ≡ scopes.now.words }
-    ensures tells { Tells result (return_faults scopes.now.words functions.now.names scopes.now.scopes result_type token (option_map value_of value.now)) }
+    ensures tells { Tells result
+        (return_faults scopes.now.words functions.now.names scopes.now.scopes result_type token
+        (option_map value_of value.now)) }
 {
     match value {
         None => Ok(check_nothing(result_type, token)?),
@@ -75,7 +79,8 @@ pub fn check_return(
 
 // A `return` without a value.
 fn check_nothing(result_type: Outcome, token: u32) -> Result<(), Fault>
-    ensures told { (words : List Word) → (defined : List ℕ) → (scopes : List Scope) → told result ≡ earliest (return_faults words defined scopes result_type token None) }
+    ensures told { (words : List Word) → (defined : List ℕ) → (scopes : List Scope)
+        → told result ≡ earliest (return_faults words defined scopes result_type token None) }
 {
     match result_type {
         Outcome::Nothing => Ok(()),
@@ -92,7 +97,10 @@ fn check_given(
     value: &Value,
 ) -> Result<(), Fault>
     requires { functions.now.words ≡ scopes.now.words }
-    ensures told { told result ≡ earliest (return_faults scopes.now.words functions.now.names scopes.now.scopes result_type token (Some (value_of value.now))) }
+    ensures told { told result
+        ≡ earliest
+        (return_faults scopes.now.words functions.now.names scopes.now.scopes result_type token
+        (Some (value_of value.now))) }
 {
     match result_type {
         Outcome::Nothing => Err(Fault::Mistyped(token)),

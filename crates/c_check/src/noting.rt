@@ -9,7 +9,8 @@ use std::alloc::AllocError;
 /// Notes the function whose name stands at the token, if it is defined.
 pub fn note(functions: &Definitions<'_>, row: &mut Vec<u32>, token: u32) -> Result<(), AllocError>
     requires { length functions.now.names < 2 ^ 32 }
-    ensures { OnOk result (row.new.items ≡ row.old.items ++ numbers_at functions.now.words functions.now.names (token ∷ [])) }
+    ensures { OnOk result
+        (row.new.items ≡ row.old.items ++ numbers_at functions.now.words functions.now.names (token ∷ [])) }
 {
     match functions.number_at(token) {
         Some(number) => {

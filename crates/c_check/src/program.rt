@@ -38,8 +38,8 @@ impl CProgram {
         CProgram { unit, root }
     }
 
-    /// What each program keeps: nothing is wrong in it, its functions have ranks so that each call leads to a lower one,
-    /// its root is defined, and some text spells its unit, so that it keeps the limits of texts too.
+    /// What each program keeps: nothing is wrong in it, its functions have ranks so that each call leads to a lower
+    /// one, its root is defined, and some text spells its unit, so that it keeps the limits of texts too.
     pub fn keeps(&self)
         ensures passes { PassesChecks (unit_of self.now.unit) self.now.root }
         ensures spelled { IsSpelled (unit_of self.now.unit) }

@@ -49,7 +49,9 @@ pub fn names_along(
     functions: &Definitions<'_>,
     path: &[u32],
 ) -> Result<Vec<Name>, AllocError>
-    ensures { IfOk result (λ names. names.items ≡ map (λ n. text_at functions.now.words (slice_index_or functions.now.names n 0)) path.now) }
+    ensures { IfOk result
+        (λ names. names.items
+        ≡ map (λ n. text_at functions.now.words (slice_index_or functions.now.names n 0)) path.now) }
 {
     let mut names = Vec::new(alloc);
     for number in path {

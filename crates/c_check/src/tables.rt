@@ -17,7 +17,9 @@ pub fn call_table(
     externals: &[External],
 ) -> Result<Vec<Vec<u32>>, AllocError>
     requires { length functions.now.names < 2 ^ 32 }
-    ensures { IfOk result (λ rows. calls_of rows.items ≡ rows_of functions.now.words functions.now.names (map external_of externals.now)) }
+    ensures { IfOk result
+        (λ rows. calls_of rows.items
+        ≡ rows_of functions.now.words functions.now.names (map external_of externals.now)) }
 {
     let mut rows = Vec::new(alloc);
     for external in externals {
@@ -34,7 +36,9 @@ fn note_external(
     external: &External,
 ) -> Result<(), AllocError>
     requires { length functions.now.names < 2 ^ 32 }
-    ensures { OnOk result (calls_of rows.new.items ≡ calls_of rows.old.items ++ rows_of functions.now.words functions.now.names (external_of external.now ∷ [])) }
+    ensures { OnOk result
+        (calls_of rows.new.items
+        ≡ calls_of rows.old.items ++ rows_of functions.now.words functions.now.names (external_of external.now ∷ [])) }
 {
     match external {
         External::Declare(_, _, _) => {}
@@ -53,7 +57,9 @@ fn calls_in_body(
     body: &[Stmt],
 ) -> Result<Vec<u32>, AllocError>
     requires { length functions.now.names < 2 ^ 32 }
-    ensures { IfOk result (λ row. row.items ≡ numbers_at functions.now.words functions.now.names (called_in (statements_of (map statement_of body.now)))) }
+    ensures { IfOk result
+        (λ row. row.items
+        ≡ numbers_at functions.now.words functions.now.names (called_in (statements_of (map statement_of body.now)))) }
 {
     let mut row = Vec::new(alloc);
     note_statements(functions, &mut row, body)?;

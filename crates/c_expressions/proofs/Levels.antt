@@ -15,17 +15,20 @@ expr_is zero (suc d) min logical c o at = refl
 expr_is (suc p) zero min logical c o at = refl
 expr_is (suc p) (suc d) min logical c o at = refl
 
-pub inner_none : (p d : ℕ) (logical : Bool) (o : Others) (at : Place) → p ≡ 0 → (inner_of p d logical o).form.reading at ≡ Err (Limit which.Parens 65)
+pub inner_none : (p d : ℕ) (logical : Bool) (o : Others) (at : Place) → p ≡ 0
+    → (inner_of p d logical o).form.reading at ≡ Err (Limit which.Parens 65)
 unfolding inner_of
 inner_none zero d logical o at e = refl
 inner_none (suc p) d logical o at e = absurd (omega arith)
 
-pub inner_more : (p d : ℕ) (logical : Bool) (o : Others) (at : Place) → 0 < p → (inner_of p d logical o).form.reading at ≡ (expr (p - 1) d 1 logical casts.Taken o).form.reading at
+pub inner_more : (p d : ℕ) (logical : Bool) (o : Others) (at : Place) → 0 < p
+    → (inner_of p d logical o).form.reading at ≡ (expr (p - 1) d 1 logical casts.Taken o).form.reading at
 unfolding inner_of
 inner_more zero d logical o at h = absurd (omega arith)
 inner_more (suc p) d logical o at h = let e : suc p - 1 ≡ p = omega arith in rw e refl
 
-pub deeper_none : (p d min : ℕ) (logical : Bool) (at : Place) → d ≡ 0 → (deeper_of p d min logical).form.reading at ≡ Err (Limit which.Depth 11)
+pub deeper_none : (p d min : ℕ) (logical : Bool) (at : Place) → d ≡ 0
+    → (deeper_of p d min logical).form.reading at ≡ Err (Limit which.Depth 11)
 unfolding deeper_of
 deeper_none p zero min logical at e = refl
 deeper_none p (suc d) min logical at e = absurd (omega arith)

@@ -3,7 +3,8 @@
 ghost use Rattle.std.specs.Prelude.{◌≡◌, ◌∷◌, map, IfOk};
 ghost use Rattle.grammar.specs.Rule.{many};
 ghost use Rattle.c_unit.specs.Tree.{expression_of, call_of, value_of};
-ghost use Rattle.c_grammar.specs.Expressions.{at_call, comma, argument, further_argument, some_arguments, no_arguments, arguments, open_paren, call, called_value, plain_value, assigned};
+ghost use Rattle.c_grammar.specs.Expressions.{at_call, comma, argument, further_argument, some_arguments, no_arguments};
+ghost use Rattle.c_grammar.specs.Expressions.{arguments, open_paren, call, called_value, plain_value, assigned};
 ghost use Rattle.c_reader.specs.Reading.{position, Reads};
 
 use crate::expressions::{close_paren, whole_expr};

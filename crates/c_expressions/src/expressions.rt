@@ -3,7 +3,11 @@
 ghost use Rattle.std.specs.Prelude.{◌≡◌, Result};
 ghost use Rattle.grammar.specs.Chain.{grow};
 ghost use Rattle.c_unit.specs.Tree.{expression_of};
-ghost use Rattle.c_grammar.specs.Expressions.{at_operation, operator, shallow, some_depth, one_paren, operation, at_index, index, indexed, open_bracket, close_bracket, close_paren, parenthesised, after_cast_type, cast_type, cast, bracketed, bracketed_indexed, prefixed, lead, operand_after, operand, expr, inner_of, deeper_of, whole_expr, condition, target};
+ghost use Rattle.c_grammar.specs.Expressions.{at_operation, operator, shallow, some_depth, one_paren, operation};
+ghost use Rattle.c_grammar.specs.Expressions.{at_index, index, indexed, open_bracket, close_bracket, close_paren};
+ghost use Rattle.c_grammar.specs.Expressions.{parenthesised, after_cast_type, cast_type, cast, bracketed};
+ghost use Rattle.c_grammar.specs.Expressions.{bracketed_indexed, prefixed, lead, operand_after, operand, expr};
+ghost use Rattle.c_grammar.specs.Expressions.{inner_of, deeper_of, whole_expr, condition, target};
 ghost use Rattle.c_reader.specs.Reading.{position, Reads};
 
 use crate::measures::{
@@ -174,7 +178,9 @@ pub fn operations(
     min: u32,
     logical: bool,
 ) -> Result<Expr, Departure>
-    ensures { Reads (grow (at_operation min logical) (operation depth (deeper_of parens depth) logical) (expression_of left)) expression_of result reader.old reader.new }
+    ensures { Reads
+        (grow (at_operation min logical) (operation depth (deeper_of parens depth) logical) (expression_of left))
+        expression_of result reader.old reader.new }
 {
     let mut value = left;
     'chain: while at_operation(reader, min, logical, &value) {
@@ -196,7 +202,8 @@ pub fn operation(
     depth: u32,
     logical: bool,
 ) -> Result<Expr, Departure>
-    ensures { Reads (operation depth (deeper_of parens depth) logical (expression_of left)) expression_of result reader.old reader.new }
+    ensures { Reads (operation depth (deeper_of parens depth) logical (expression_of left)) expression_of result
+        reader.old reader.new }
 {
     let (op, number) = read_operator(reader)?;
     shallow(reader, depth, &left)?;
@@ -226,7 +233,8 @@ pub fn read_operand(
     casts: Casts,
     others: Others,
 ) -> Result<Expr, Departure>
-    ensures { Reads (operand parens depth (inner_of parens depth) (deeper_of parens depth) logical casts others) expression_of result reader.old reader.new }
+    ensures { Reads (operand parens depth (inner_of parens depth) (deeper_of parens depth) logical casts others)
+        expression_of result reader.old reader.new }
 {
     let (lead, number) = read_lead(reader, others)?;
     let expr = operand_after(reader, parens, depth, logical, casts, lead, number)?;
@@ -244,7 +252,9 @@ pub fn operand_after(
     lead: Lead,
     number: u32,
 ) -> Result<Expr, Departure>
-    ensures { Reads (operand_after parens depth (inner_of parens depth) (deeper_of parens depth) logical casts lead number) expression_of result reader.old reader.new }
+    ensures { Reads
+        (operand_after parens depth (inner_of parens depth) (deeper_of parens depth) logical casts lead number)
+        expression_of result reader.old reader.new }
 {
     match lead {
         Lead::Name => indexed(reader, Expr::Name(number), parens, depth),
@@ -262,7 +272,8 @@ pub fn indexed(
     parens: u32,
     depth: u32,
 ) -> Result<Expr, Departure>
-    ensures { Reads (indexed depth (deeper_of parens depth) (expression_of base)) expression_of result reader.old reader.new }
+    ensures { Reads (indexed depth (deeper_of parens depth) (expression_of base)) expression_of result reader.old
+        reader.new }
 {
     let mut value = base;
     'chain: while at_index(reader, &value) {
@@ -282,7 +293,8 @@ pub fn read_index(
     parens: u32,
     depth: u32,
 ) -> Result<Expr, Departure>
-    ensures { Reads (index depth (deeper_of parens depth) (expression_of base)) expression_of result reader.old reader.new }
+    ensures { Reads (index depth (deeper_of parens depth) (expression_of base)) expression_of result reader.old
+        reader.new }
 {
     let number = open_bracket(reader)?;
     shallow(reader, depth, &base)?;
@@ -305,7 +317,9 @@ pub fn bracketed_indexed(
     casts: Casts,
     number: u32,
 ) -> Result<Expr, Departure>
-    ensures { Reads (bracketed_indexed parens depth (inner_of parens depth) (deeper_of parens depth) logical casts number) expression_of result reader.old reader.new }
+    ensures { Reads
+        (bracketed_indexed parens depth (inner_of parens depth) (deeper_of parens depth) logical casts number)
+        expression_of result reader.old reader.new }
 {
     let base = bracketed(reader, parens, depth, logical, casts, number)?;
     let expr = indexed(reader, base, parens, depth)?;
@@ -323,7 +337,8 @@ pub fn bracketed(
     casts: Casts,
     number: u32,
 ) -> Result<Expr, Departure>
-    ensures { Reads (bracketed parens depth (inner_of parens depth) (deeper_of parens depth) logical casts number) expression_of result reader.old reader.new }
+    ensures { Reads (bracketed parens depth (inner_of parens depth) (deeper_of parens depth) logical casts number)
+        expression_of result reader.old reader.new }
 {
     one_paren(reader, parens)?;
     if takes_cast(casts) && reader.at_type() {
@@ -359,7 +374,8 @@ pub fn parenthesised(
     others: Others,
     number: u32,
 ) -> Result<Expr, Departure>
-    ensures { Reads (parenthesised (inner_of parens depth) logical others number) expression_of result reader.old reader.new }
+    ensures { Reads (parenthesised (inner_of parens depth) logical others number) expression_of result reader.old
+        reader.new }
 {
     let inner = read_inner(reader, parens, depth, logical, others)?;
     close_paren(reader, rest_of(true, &inner))?;
@@ -376,7 +392,8 @@ pub fn prefixed(
     op: Unary,
     number: u32,
 ) -> Result<Expr, Departure>
-    ensures { Reads (prefixed depth (deeper_of parens depth) logical op number) expression_of result reader.old reader.new }
+    ensures { Reads (prefixed depth (deeper_of parens depth) logical op number) expression_of result reader.old
+        reader.new }
 {
     some_depth(reader, depth)?;
     let operand = deeper(reader, parens, depth, 11, logical_operand(logical, op))?;

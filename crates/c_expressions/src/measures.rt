@@ -2,7 +2,9 @@
 
 ghost use Rattle.std.specs.Prelude.{◌≡◌, ◌≤◌, ◌&&◌};
 ghost use Rattle.c_unit.specs.Tree.{expression_of, value_of};
-ghost use Rattle.c_grammar.specs.Expressions.{rank_of, joins_conditions, is_not, is_logical, is_unary, is_postfix, rest_of, rest_after_postfix, rest_of_value, may_stand, takes_cast, cast_others};
+ghost use Rattle.c_grammar.specs.Expressions.{rank_of, joins_conditions, is_not, is_logical, is_unary, is_postfix};
+ghost use Rattle.c_grammar.specs.Expressions.{rest_of, rest_after_postfix, rest_of_value, may_stand, takes_cast};
+ghost use Rattle.c_grammar.specs.Expressions.{cast_others};
 
 use c_grammar::{Casts, Others};
 use c_unit::{Binary, Expr, Unary, Value};

@@ -10,7 +10,8 @@ use Rattle.c_faults.specs.Files.{with_head}
 use Rattle.c_faults.specs.FileLaws.{params_known}
 
 -- once the scope of the parameters is left
-pub head_left : (o : Outcome) (name : ℕ) (params : List Parameter) (known : Known) → left (with_head o name params known) ≡ declared_in (record { token = name; bound = function_of o params }) known
+pub head_left : (o : Outcome) (name : ℕ) (params : List Parameter) (known : Known)
+    → left (with_head o name params known) ≡ declared_in (record { token = name; bound = function_of o params }) known
 head_left o name params known =
     let e : Entry = record { token = name; bound = function_of o params } in
     ap left (params_known known.words [] (declared_in e known).scopes params)

@@ -16,7 +16,9 @@ use Rattle.c_rules.specs.Expressions.{type_of, misfit, part_faults, pair_faults,
 use Rattle.c_scopes.specs.FirstFaultLaws.{after_none}
 
 -- the first fault of a pair whose parts have none
-pub pair_told : (op : Binary) (l r : Scalar) (a b : ℕ) → earliest (part_faults op (Some l) a) ≡ None → earliest (part_faults op (Some r) b) ≡ None → earliest (misfit true (binary_type op l r) a) ≡ earliest (pair_faults op (Some l) (Some r) a)
+pub pair_told : (op : Binary) (l r : Scalar) (a b : ℕ) → earliest (part_faults op (Some l) a) ≡ None
+    → earliest (part_faults op (Some r) b) ≡ None
+    → earliest (misfit true (binary_type op l r) a) ≡ earliest (pair_faults op (Some l) (Some r) a)
 pair_told binary.Both (scalars.Integer i) (scalars.Integer j) a b left right = refl
 pair_told binary.Both (scalars.Integer i) (scalars.Pointer j) a b left right = cc
 pair_told binary.Both (scalars.Pointer i) r a b left right = cc

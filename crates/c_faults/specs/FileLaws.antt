@@ -28,11 +28,13 @@ params_known words scope rest [] = refl
 params_known words scope rest (p ∷ ps) = ap (λ (known : Known). with_params ps known) (param_known words scope rest p.name p.kind) ∙ params_known words (with_parameter scope p.name p.kind) rest ps
 
 -- the scope after a declaration
-pub declarators_known : (words : List Word) (o : Outcome) (file : File) (ds : List DeclaratorTree) → with_declarators o ds (known_at words file.scope) ≡ known_at words (units.with_declarators o file ds).scope
+pub declarators_known : (words : List Word) (o : Outcome) (file : File) (ds : List DeclaratorTree)
+    → with_declarators o ds (known_at words file.scope) ≡ known_at words (units.with_declarators o file ds).scope
 declarators_known words o file [] = refl
 declarators_known words o file (d ∷ ds) = declarators_known words o (with_global file d.name (global_bound o d.shape)) ds
 
 -- its faults
-pub faults_known : (words : List Word) (first : ℕ) (o : Outcome) (file : File) (ds : List DeclaratorTree) → declarators_faults (known_at words file.scope) first o ds ≡ units.declarators_faults words first o file ds
+pub faults_known : (words : List Word) (first : ℕ) (o : Outcome) (file : File) (ds : List DeclaratorTree)
+    → declarators_faults (known_at words file.scope) first o ds ≡ units.declarators_faults words first o file ds
 faults_known words first o file [] = refl
 faults_known words first o file (d ∷ ds) = ap (λ (faults : List Fault). shape_faults words file.scope first o d.name d.shape ++ faults) (faults_known words first o (with_global file d.name (global_bound o d.shape)) ds)

@@ -17,7 +17,8 @@ pub fn check_arguments(
     arguments: &[Expr],
     params: &[Scalar],
 ) -> Result<(), Fault>
-    ensures told { told result ≡ earliest (argument_faults scopes.now.words scopes.now.scopes (map expression_of arguments.now) params.now) }
+    ensures told { told result
+        ≡ earliest (argument_faults scopes.now.words scopes.now.scopes (map expression_of arguments.now) params.now) }
 {
     let mut params = params;
     for argument in arguments {

@@ -17,7 +17,8 @@ pub fn check_array(
     size: u32,
     firsts: &Option<Vec<Constant>>,
 ) -> Result<(), Fault>
-    ensures told { told result ≡ earliest (array_faults words.now size (option_map (λ constants. constants.items) firsts.now)) }
+    ensures told { told result
+        ≡ earliest (array_faults words.now size (option_map (λ constants. constants.items) firsts.now)) }
 {
     let count = number_of(words.worth_at(size));
     if count == 0 {
@@ -28,7 +29,8 @@ pub fn check_array(
 
 // The first of the initialisers for which there is no element.
 fn check_initialisers(count: u32, firsts: &Option<Vec<Constant>>) -> Result<(), Fault>
-    ensures told { told result ≡ earliest (initialiser_faults count (option_map (λ constants. constants.items) firsts.now)) }
+    ensures told { told result
+        ≡ earliest (initialiser_faults count (option_map (λ constants. constants.items) firsts.now)) }
 {
     match firsts {
         None => Ok(()),

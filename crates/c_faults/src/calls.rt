@@ -21,7 +21,9 @@ pub fn check_call(
     call: &Call,
 ) -> Result<(), Fault>
     requires { functions.now.words ≡ scopes.now.words }
-    ensures told { told result ≡ earliest (call_faults scopes.now.words functions.now.names scopes.now.scopes (use_of way) (call_of call.now)) }
+    ensures told { told result
+        ≡ earliest
+        (call_faults scopes.now.words functions.now.names scopes.now.scopes (use_of way) (call_of call.now)) }
 {
     match scopes.look_up(call.name) {
         Some(entry) => check_bound(scopes, functions, way, call, &entry.bound),
@@ -38,7 +40,10 @@ fn check_bound(
     bound: &Bound,
 ) -> Result<(), Fault>
     requires { functions.now.words ≡ scopes.now.words }
-    ensures told { told result ≡ earliest (bound_faults scopes.now.words functions.now.names scopes.now.scopes (use_of way) (call_of call.now) (bound_of bound.now)) }
+    ensures told { told result
+        ≡ earliest
+        (bound_faults scopes.now.words functions.now.names scopes.now.scopes (use_of way) (call_of call.now)
+        (bound_of bound.now)) }
 {
     match bound {
         Bound::Variable(_) => Err(Fault::Mistyped(call.name)),

@@ -17,7 +17,8 @@ use c_scopes::{Bound, Fault, Scopes};
 use c_unit::{Constant, Declarator, Integer, Outcome, Scalar, Shape};
 use std::alloc::Global;
 
-/// The first fault of what a declaration at file level declares. Where there is none the names stand in the file's scope.
+/// The first fault of what a declaration at file level declares. Where there is none the names stand in the file's
+/// scope.
 pub fn check_declarators(
     alloc: Global,
     scopes: &mut Scopes<'_>,
@@ -75,7 +76,8 @@ fn element_of(given: Outcome) -> Integer
 // An object, whose name is new in its scope.
 fn declare_object(scopes: &mut Scopes<'_>, name: u32, bound: Bound) -> Result<(), Stop>
     ensures tells { Tells result (twice_faults scopes.old.words (innermost scopes.old.scopes) name) }
-    ensures known { OnOk result (scopes.new ≡ declared_in (record { token = name; bound = bound_of bound }) scopes.old) }
+    ensures known { OnOk result
+        (scopes.new ≡ declared_in (record { token = name; bound = bound_of bound }) scopes.old) }
 {
     if scopes.is_declared(name) {
         return Err(Stop::Fault(Fault::Duplicate(name)));
@@ -92,7 +94,9 @@ fn declare_array(
     size: u32,
     firsts: &Option<Vec<Constant>>,
 ) -> Result<(), Stop>
-    ensures tells { Tells result (twice_faults scopes.old.words (innermost scopes.old.scopes) name ++ array_faults scopes.old.words size (option_map (λ constants. constants.items) firsts.now)) }
+    ensures tells { Tells result
+        (twice_faults scopes.old.words (innermost scopes.old.scopes) name
+        ++ array_faults scopes.old.words size (option_map (λ constants. constants.items) firsts.now)) }
     ensures known { OnOk result (scopes.new ≡ declared_in (record { token = name; bound = Array kind }) scopes.old) }
 {
     declare_object(scopes, name, Bound::Array(kind))?;

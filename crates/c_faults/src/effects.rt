@@ -22,7 +22,8 @@ pub fn check_effect(
     effect: &Effect,
 ) -> Result<(), Fault>
     requires { functions.now.words ≡ scopes.now.words }
-    ensures told { told result ≡ earliest (effect_faults scopes.now.words functions.now.names scopes.now.scopes (effect_of effect.now)) }
+    ensures told { told result
+        ≡ earliest (effect_faults scopes.now.words functions.now.names scopes.now.scopes (effect_of effect.now)) }
 {
     match effect {
         Effect::Assign(to, _, value) => {
@@ -44,7 +45,8 @@ pub fn check_effect(
 
 // `x op= e` is typed as `x = x op e`, and wrong at `x`.
 fn check_update(op: Binary, wanted: Scalar, other: Scalar, to: &Expr) -> Result<(), Fault>
-    ensures told { told result ≡ earliest (update_faults op (Some wanted) (Some other) (first_of (expression_of to.now))) }
+    ensures told { told result
+        ≡ earliest (update_faults op (Some wanted) (Some other) (first_of (expression_of to.now))) }
 {
     match binary_type(op, wanted, other) {
         Some(given) if suits(wanted, given) => Ok(()),

@@ -48,7 +48,8 @@ fn is_variable(bound: &Bound) -> bool
 
 /// The type of a name as a value. The name of a function stands in calls alone.
 pub fn name_type(scopes: &Scopes<'_>, token: u32) -> Result<Scalar, Fault>
-    ensures told { told result ≡ earliest (laws.name_faults token (names.look_up scopes.now.words scopes.now.scopes token)) }
+    ensures told { told result
+        ≡ earliest (laws.name_faults token (names.look_up scopes.now.words scopes.now.scopes token)) }
     ensures typed { IfOk result (λ t. laws.type_at (names.look_up scopes.now.words scopes.now.scopes token) ≡ Some t) }
 {
     let Some(entry) = scopes.look_up(token) else {

@@ -24,7 +24,8 @@ pub fn check_locals(
     locals: &[Local],
 ) -> Result<(), Stop>
     requires { functions.now.words ≡ scopes.old.words }
-    ensures tells { Tells result (locals_faults scopes.old.words functions.now.names kind scopes.old.scopes (map local_of locals.now)) }
+    ensures tells { Tells result
+        (locals_faults scopes.old.words functions.now.names kind scopes.old.scopes (map local_of locals.now)) }
     ensures known { OnOk result (scopes.new ≡ with_declared kind scopes.old (map local_of locals.now)) }
 {
     let mut rest = locals;
@@ -43,7 +44,8 @@ fn check_local(
     local: &Local,
 ) -> Result<(), Stop>
     requires { functions.now.words ≡ scopes.old.words }
-    ensures tells { Tells result (local_faults scopes.old.words functions.now.names kind scopes.old.scopes (local_of local.now)) }
+    ensures tells { Tells result
+        (local_faults scopes.old.words functions.now.names kind scopes.old.scopes (local_of local.now)) }
     ensures known { OnOk result (scopes.new ≡ with_declared kind scopes.old (local_of local.now ∷ [])) }
 {
     if scopes.is_declared(local.name) {
@@ -73,7 +75,9 @@ fn check_shape(
     shape: &LocalShape,
 ) -> Result<(), Fault>
     requires { functions.now.words ≡ scopes.now.words }
-    ensures told { told result ≡ earliest (shape_faults scopes.now.words functions.now.names scopes.now.scopes kind (local_shape_of shape.now)) }
+    ensures told { told result
+        ≡ earliest
+        (shape_faults scopes.now.words functions.now.names scopes.now.scopes kind (local_shape_of shape.now)) }
 {
     match shape {
         LocalShape::Integer(first) => check_first(scopes, functions, Scalar::Integer(kind), first),
@@ -90,7 +94,10 @@ fn check_first(
     first: &Option<Value>,
 ) -> Result<(), Fault>
     requires { functions.now.words ≡ scopes.now.words }
-    ensures told { told result ≡ earliest (first_value_faults scopes.now.words functions.now.names scopes.now.scopes wanted (option_map value_of first.now)) }
+    ensures told { told result
+        ≡ earliest
+        (first_value_faults scopes.now.words functions.now.names scopes.now.scopes wanted
+        (option_map value_of first.now)) }
 {
     match first {
         None => Ok(()),

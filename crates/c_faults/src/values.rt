@@ -20,7 +20,9 @@ pub fn check_value(
     value: &Value,
 ) -> Result<(), Fault>
     requires { functions.now.words ≡ scopes.now.words }
-    ensures told { told result ≡ earliest (value_faults scopes.now.words functions.now.names scopes.now.scopes (Some wanted) (value_of value.now)) }
+    ensures told { told result
+        ≡ earliest
+        (value_faults scopes.now.words functions.now.names scopes.now.scopes (Some wanted) (value_of value.now)) }
 {
     match value {
         Value::Expr(e) => check_wanted(scopes, Some(wanted), e),

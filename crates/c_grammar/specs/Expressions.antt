@@ -276,7 +276,8 @@ expr_within p inner (suc d) min logical c o =
 abbrev pub no_inner : ℕ → Inner
 no_inner d logical o = over which.Parens most_parens
 
--- an expression: how many parentheses may be open, how many operators nested, how tightly they bind at least, whether && and || may stand, how casts stand at its first token, and what else might
+-- an expression: how many parentheses may be open, how many operators nested, how tightly they bind at least, whether
+-- && and || may stand, how casts stand at its first token, and what else might
 unfoldable pub expr : ℕ → ℕ → ℕ → Bool → Casts → Others → Rule true Expression
 expr zero d min logical c o = expr_within zero no_inner d min logical c o
 expr (suc p) d min logical c o = expr_within (suc p) (λ d logical o. expr p d 1 logical casts.Taken o) d min logical c o

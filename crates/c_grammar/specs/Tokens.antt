@@ -36,7 +36,8 @@ pub record Seen : Type 0 where
   pub number : ℕ
   pub text : List ℕ
 
--- how many functions, frames and elements there may still be, and the functions that are declared, the latest last: the name, and whether it gives a value
+-- how many functions, frames and elements there may still be, and the functions that are declared, the latest last: the
+-- name, and whether it gives a value
 pub record Room : Type 0 where
   pub functions : ℕ
   pub frames : ℕ

@@ -1,7 +1,8 @@
 //! Marks: operators, brackets and the like.
 
 ghost use Rattle.std.specs.Prelude.{◌≡◌};
-ghost use Rattle.c_grammar.specs.Symbols.{operator_byte, bracket_byte, one_byte_symbol, repeated_symbol, updated_symbol, with_equals, two_byte_symbol, three_byte_symbol, mark_symbol};
+ghost use Rattle.c_grammar.specs.Symbols.{operator_byte, bracket_byte, one_byte_symbol, repeated_symbol};
+ghost use Rattle.c_grammar.specs.Symbols.{updated_symbol, with_equals, two_byte_symbol, three_byte_symbol, mark_symbol};
 
 use crate::symbol::Symbol;
 use c_unit::{Binary, Unary};

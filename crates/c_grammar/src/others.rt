@@ -1,7 +1,9 @@
 //! What might stand at a place besides what fits there.
 
 ghost use Rattle.std.specs.Prelude.{◌≡◌};
-ghost use Rattle.c_grammar.specs.Symbols.{is_step, is_star, is_bracket, is_close_bracket, is_paren, is_brace, is_comma, is_name, starts_expression, is_object_end, continues, ends_effect, is_label, starts_statement, goes_with};
+ghost use Rattle.c_grammar.specs.Symbols.{is_step, is_star, is_bracket, is_close_bracket, is_paren, is_brace, is_comma};
+ghost use Rattle.c_grammar.specs.Symbols.{is_name, starts_expression, is_object_end, continues, ends_effect, is_label};
+ghost use Rattle.c_grammar.specs.Symbols.{starts_statement, goes_with};
 
 use crate::symbol::{Symbol, lead_of, starts_type};
 use c_unit::Binary;

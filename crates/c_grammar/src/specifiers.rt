@@ -1,7 +1,10 @@
 //! The words of a type, in any order.
 
 ghost use Rattle.std.specs.Prelude.{◌≡◌};
-ghost use Rattle.c_grammar.specs.Words.{takes_void, takes_const, takes_static, knows_static, with_base, with_sign, with_void, with_char, with_short, with_int, with_type_word, with_static, with_const, with_word, is_unsigned, int_of, char_of, short_of, unsaid_of, outcome_of};
+ghost use Rattle.c_grammar.specs.Words.{takes_void, takes_const, takes_static, knows_static, with_base, with_sign};
+ghost use Rattle.c_grammar.specs.Words.{with_void, with_char, with_short, with_int, with_type_word, with_static};
+ghost use Rattle.c_grammar.specs.Words.{with_const, with_word, is_unsigned, int_of, char_of, short_of, unsaid_of};
+ghost use Rattle.c_grammar.specs.Words.{outcome_of};
 
 use crate::symbol::{Symbol, TypeWord};
 use c_unit::{Integer, Outcome};

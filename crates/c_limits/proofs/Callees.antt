@@ -24,7 +24,8 @@ or_further false true e is = refl
 or_further false false e is = e
 
 -- a name that is defined has the number of a function
-pub low_named : (words : List Word) (file : File) (xs : List ExternalTree) (name : List ℕ) → list_any (λ other. bytes_eq (text_at words other) name) (definitions xs) ≡ true
+pub low_named : (words : List Word) (file : File) (xs : List ExternalTree) (name : List ℕ)
+    → list_any (λ other. bytes_eq (text_at words other) name) (definitions xs) ≡ true
     → number_named words (functions_in file xs) name < length (functions_in file xs)
 low_named words file [] name is = absurd (false≢true is)
 low_named words file (Declaration first o ds ∷ xs) name is = low_named words (external_after file (Declaration first o ds)) xs name is
@@ -36,7 +37,8 @@ low_named words file (Definition first o token params body ∷ xs) name is =
 
 -- ---- the function of a name
 
-named_after : (words : List Word) (g h : Function) (fs : List Function) (name : List ℕ) (test : Bool) → test ≡ bytes_eq (text_at words g.name) name
+named_after : (words : List Word) (g h : Function) (fs : List Function) (name : List ℕ) (test : Bool)
+    → test ≡ bytes_eq (text_at words g.name) name
     → slice_get (g ∷ fs) (if test then 0 else number_named words fs name + 1) ≡ Some h → ((slice_get fs (number_named words fs name) ≡ Some h) → text_at words h.name ≡ name) → text_at words h.name ≡ name
 named_after words g h fs name true is at further =
     subst (λ (x : Function). text_at words x.name ≡ name) (same_Some g h at) ((bytes_eq-Decides (text_at words g.name) name).0 (sym is))
@@ -44,11 +46,13 @@ named_after words g h fs name false is at further =
     let e : number_named words fs name + 1 ≡ suc (number_named words fs name) = omega arith in
     further (subst (λ (n : ℕ). slice_get (g ∷ fs) n ≡ Some h) e at)
 
-pub named_text : (words : List Word) (fs : List Function) (name : List ℕ) (h : Function) → slice_get fs (number_named words fs name) ≡ Some h → text_at words h.name ≡ name
+pub named_text : (words : List Word) (fs : List Function) (name : List ℕ) (h : Function)
+    → slice_get fs (number_named words fs name) ≡ Some h → text_at words h.name ≡ name
 named_text words [] name h at = absurd (none-some h at)
 named_text words (g ∷ fs) name h at = named_after words g h fs name (bytes_eq (text_at words g.name) name) refl at (λ there. named_text words fs name h there)
 
-pub function_there : (program : Program) (f : ℕ) → f < length program.functions → slice_get program.functions f ≡ Some (function_at program f)
+pub function_there : (program : Program) (f : ℕ) → f < length program.functions
+    → slice_get program.functions f ≡ Some (function_at program f)
 function_there program f low =
     let at : slice_get program.functions f ≡ Some (get_or program.functions f no_function) = slice_get-get_or program.functions f no_function low in
     at ∙ ap (λ (g : Function). Some g) (sym (ap (λ (x : Option Function). option_map_or (λ function. function) x no_function) at))

@@ -18,7 +18,8 @@ use Rattle.c_rules.specs.SpelledUnits.{Names, gives, known_after, is_known, give
 
 -- ---- names that are known
 
-known_last : (known : Bool) (text : List ℕ) (names : Names) (d : List ℕ × Bool) → known_after known text (names ++ (d ∷ [])) ≡ (if bytes_eq d.0 text then d.1 else known_after known text names)
+known_last : (known : Bool) (text : List ℕ) (names : Names) (d : List ℕ × Bool)
+    → known_after known text (names ++ (d ∷ [])) ≡ (if bytes_eq d.0 text then d.1 else known_after known text names)
 known_last known text [] d = refl
 known_last known text (n ∷ names) d = known_last (if bytes_eq n.0 text then n.1 else known) text names d
 
@@ -32,15 +33,20 @@ module _ (words : List Word) where
   abbrev pub Mirrors : Scope → Names → Type 0
   Mirrors scope names = (token : ℕ) (o : Outcome) (ps : List Scalar) → HasFunction words scope token o ps → is_known (text_at words token) names ≡ gives o
 
-  further_function : (e : Entry) (scope : Scope) (token : ℕ) (o : Outcome) (ps : List Scalar) → bytes_eq (text_at words e.token) (text_at words token) ≡ false → HasFunction words (e ∷ scope) token o ps → HasFunction words scope token o ps
+  further_function : (e : Entry) (scope : Scope) (token : ℕ) (o : Outcome) (ps : List Scalar)
+      → bytes_eq (text_at words e.token) (text_at words token) ≡ false → HasFunction words (e ∷ scope) token o ps
+      → HasFunction words scope token o ps
   further_function e scope token o ps other has =
       record { entry = has.entry; found = sym (ap (λ (b : Bool). if b then Some e else named words token scope) other) ∙ has.found; is = has.is }
 
-  newest_is : (e : Entry) (scope : Scope) (token : ℕ) (o : Outcome) (ps : List Scalar) → bytes_eq (text_at words e.token) (text_at words token) ≡ true → HasFunction words (e ∷ scope) token o ps → e.bound ≡ Function o ps
+  newest_is : (e : Entry) (scope : Scope) (token : ℕ) (o : Outcome) (ps : List Scalar)
+      → bytes_eq (text_at words e.token) (text_at words token) ≡ true → HasFunction words (e ∷ scope) token o ps
+      → e.bound ≡ Function o ps
   newest_is e scope token o ps same has =
       subst (λ (x : Entry). x.bound ≡ Function o ps) (sym (same_Some e has.entry (sym (ap (λ (b : Bool). if b then Some e else named words token scope) same) ∙ has.found))) has.is
 
-  mirrors_object : (e : Entry) (scope : Scope) (names : Names) → is_function e.bound ≡ false → Mirrors scope names → Mirrors (e ∷ scope) names
+  mirrors_object : (e : Entry) (scope : Scope) (names : Names) → is_function e.bound ≡ false → Mirrors scope names
+      → Mirrors (e ∷ scope) names
   mirrors_object e scope names object mirrors token o ps has =
       by_test (bytes_eq (text_at words e.token) (text_at words token))
       (λ t. absurd (false≢true (sym object ∙ ap is_function (newest_is e scope token o ps t has))))
@@ -62,20 +68,23 @@ module _ (words : List Word) where
       subst (λ (ns : Names). Mirrors (record { token = name; bound = global_bound o (GlobalArray size firsts) } ∷ scope) ns) (sym (append-nil names)) (mirrors_object _ scope names refl mirrors)
   mirrors_shape o name (FunctionOf params) scope names mirrors = mirrors_function name o (types_of params) scope names mirrors
 
-  mirrors_declarators : (o : Outcome) (file : File) (ds : List DeclaratorTree) (names : Names) → Mirrors file.scope names → Mirrors (with_declarators o file ds).scope (names ++ names_of_declarators words o ds)
+  mirrors_declarators : (o : Outcome) (file : File) (ds : List DeclaratorTree) (names : Names)
+      → Mirrors file.scope names → Mirrors (with_declarators o file ds).scope (names ++ names_of_declarators words o ds)
   mirrors_declarators o file [] names mirrors = subst (λ (ns : Names). Mirrors file.scope ns) (sym (append-nil names)) mirrors
   mirrors_declarators o file (d ∷ ds) names mirrors =
       subst (λ (ns : Names). Mirrors (with_declarators o (with_global file d.name (global_bound o d.shape)) ds).scope ns) (append_assoc names (names_of_shape words o d.name d.shape) (names_of_declarators words o ds))
       (mirrors_declarators o (with_global file d.name (global_bound o d.shape)) ds (names ++ names_of_shape words o d.name d.shape) (mirrors_shape o d.name d.shape file.scope names mirrors))
 
-  pub mirrors_after : (file : File) (x : ExternalTree) (names : Names) → Mirrors file.scope names → Mirrors (external_after file x).scope (names_after words names x)
+  pub mirrors_after : (file : File) (x : ExternalTree) (names : Names) → Mirrors file.scope names
+      → Mirrors (external_after file x).scope (names_after words names x)
   mirrors_after file (Declaration first o ds) names mirrors = mirrors_declarators o file ds names mirrors
   mirrors_after file (Definition first o name params body) names mirrors = mirrors_function name o (types_of params) file.scope names mirrors
 
   pub mirrors_nothing : Mirrors [] []
   mirrors_nothing token o ps has = absurd (none-some has.entry has.found)
 
-  pub given_joined : (names : Names) (xs ys : List ℕ) → given words names (xs ++ ys) ≡ given words names xs + given words names ys
+  pub given_joined : (names : Names) (xs ys : List ℕ)
+      → given words names (xs ++ ys) ≡ given words names xs + given words names ys
   given_joined names [] ys = omega arith
   given_joined names (x ∷ xs) ys = omega (arith, given_joined names xs ys)
 
@@ -86,9 +95,11 @@ NoFunction e = is_function e.bound ≡ false
 
 pub data Inside (outer : Scope) : List Scope → Type 0 where
   outermost : {scope : Scope} → EachEntry NoFunction scope → Inside outer (scope ∷ outer ∷ [])
-  deeper : {scope : Scope} {scopes : List Scope} → EachEntry NoFunction scope → Inside outer scopes → Inside outer (scope ∷ scopes)
+  deeper : {scope : Scope} {scopes : List Scope} → EachEntry NoFunction scope → Inside outer scopes
+      → Inside outer (scope ∷ scopes)
 
-pub with_inside : (outer : Scope) (e : Entry) (scopes : List Scope) → NoFunction e → Inside outer scopes → Inside outer (with_name e scopes)
+pub with_inside : (outer : Scope) (e : Entry) (scopes : List Scope) → NoFunction e → Inside outer scopes
+    → Inside outer (with_name e scopes)
 with_inside outer e _ none (outermost each) = outermost (none, each)
 with_inside outer e _ none (deeper each within) = deeper (none, each) within
 
@@ -97,22 +108,28 @@ local_none kind (LocalInteger first) = refl
 local_none kind (LocalPointer first) = refl
 local_none kind (LocalArray size firsts) = refl
 
-locals_inside : (outer : Scope) (kind : Integer) (scopes : List Scope) (locals : List LocalTree) → Inside outer scopes → Inside outer (with_locals kind scopes locals)
+locals_inside : (outer : Scope) (kind : Integer) (scopes : List Scope) (locals : List LocalTree) → Inside outer scopes
+    → Inside outer (with_locals kind scopes locals)
 locals_inside outer kind scopes [] within = within
 locals_inside outer kind scopes (local ∷ locals) within =
     locals_inside outer kind (with_local kind scopes local) locals (with_inside outer (record { token = local.name; bound = local_bound kind local.shape }) scopes (local_none kind local.shape) within)
 
-pub statement_inside : (outer : Scope) (scopes : List Scope) (s : Statement) → Inside outer scopes → Inside outer (scopes_after scopes s)
+pub statement_inside : (outer : Scope) (scopes : List Scope) (s : Statement) → Inside outer scopes
+    → Inside outer (scopes_after scopes s)
 statement_inside outer scopes (Declares first kind locals) within = locals_inside outer kind scopes locals within
 statement_inside outer scopes _ within = within
 
 -- a function that is found stands in the file's scope
-outer_found : (words : List Word) (scope : Scope) (token : ℕ) (x further : Option Entry) (e : Entry) → named words token scope ≡ x → EachEntry NoFunction scope → is_function e.bound ≡ true → or_further x further ≡ Some e → further ≡ Some e
+outer_found : (words : List Word) (scope : Scope) (token : ℕ) (x further : Option Entry) (e : Entry)
+    → named words token scope ≡ x → EachEntry NoFunction scope → is_function e.bound ≡ true
+    → or_further x further ≡ Some e → further ≡ Some e
 outer_found words scope token None further e here each is at = at
 outer_found words scope token (Some f) further e here each is at =
     absurd (false≢true (sym (named_entry NoFunction words scope token f each here).0 ∙ subst (λ (g : Entry). is_function g.bound ≡ true) (sym (same_Some f e at)) is))
 
-pub found_outer : (words : List Word) (outer : Scope) (scopes : List Scope) (token : ℕ) (e : Entry) → Inside outer scopes → is_function e.bound ≡ true → look_up words scopes token ≡ Some e → named words token outer ≡ Some e
+pub found_outer : (words : List Word) (outer : Scope) (scopes : List Scope) (token : ℕ) (e : Entry)
+    → Inside outer scopes → is_function e.bound ≡ true → look_up words scopes token ≡ Some e
+    → named words token outer ≡ Some e
 found_outer words outer _ token e (outermost {scope = scope} each) is at =
     last_found (named words token outer) (outer_found words scope token (named words token scope) (or_further (named words token outer) None) e refl each is at)
   where

@@ -26,7 +26,8 @@ each_of : {A : Type 0} (P : A → Type 0) (xs : List A) → All P xs → EachOf 
 each_of P [] h = tt
 each_of P (x ∷ xs) h = (All-head P x xs h, each_of P xs (All-tail P x xs h))
 
-row_of_unit : (at : Place) (xs : List ExternalTree) (rest : Place) → unit.form.Spells at xs rest → InARow is_left external.form at xs rest
+row_of_unit : (at : Place) (xs : List ExternalTree) (rest : Place) → unit.form.Spells at xs rest
+    → InARow is_left external.form at xs rest
 unfolding unit
 row_of_unit at xs rest s = s.0
 
@@ -37,7 +38,8 @@ counted words bytes xs rest same of s =
     (subst (λ (ws : List Word). Good ws 0 (start bytes).ahead) same
     (good_start bytes (tokens_of bytes) (each_of IsOfKind (tokens_of bytes) of)))
 
-pub spelled_is_counted : ((bytes : List ℕ) → All IsOfKind (tokens_of bytes)) → (whole : UnitTree) → IsSpelled whole → IsCounted IsIdentifier whole
+pub spelled_is_counted : ((bytes : List ℕ) → All IsOfKind (tokens_of bytes)) → (whole : UnitTree) → IsSpelled whole
+    → IsCounted IsIdentifier whole
 spelled_is_counted of whole spelled =
     let trees = spelled.1.trees in
     let are = counted whole.words spelled.0 whole.externals trees.0 (sym spelled.1.words) (of spelled.0)

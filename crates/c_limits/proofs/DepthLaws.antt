@@ -63,7 +63,8 @@ pub open_paren_takes : Takes open_paren.form
 open_paren_takes = takes_so (open_paren_quiet deep_expressions)
 
 module _ (words : List Word) where
-  quietly : {A : Type 0} {p : Form Seen Room Fault A} {R : A → Type 0} → Spelled later_walk p (λ x m. R x) → Quietly words p R
+  quietly : {A : Type 0} {p : Form Seen Room Fault A} {R : A → Type 0} → Spelled later_walk p (λ x m. R x)
+      → Quietly words p R
   quietly h = record { each = λ at x rest s. h.each at x rest s }
 
   pub whole_expr_deep : (p : ℕ) (o : Others) → Quietly words (whole_expr p o).form (Within words 10)

@@ -29,7 +29,8 @@ module _ (words : List Word) where
 
   -- ---- calls
 
-  known_spends : (known : Bool) (at rest : Place) (x : Unit {0}) → (either known (some_frames 1) (value tt)).form.Spells at x rest
+  known_spends : (known : Bool) (at rest : Place) (x : Unit {0})
+      → (either known (some_frames 1) (value tt)).form.Spells at x rest
       → Spends at rest (one_if words known) 0 0
   known_spends true at rest x s = frames_spend 1 at rest x s
   known_spends false at rest x s =
@@ -142,7 +143,8 @@ module _ (words : List Word) where
   abbrev pub AreLocals : List LocalTree → List ℕ → List ℕ → ℕ → Type 0
   AreLocals = Is words tokens_of calls_in_locals (elements_of_all words) (InLocals Shallow)
 
-  pub one_more : (l : LocalTree) (ls : List LocalTree) (ds calls : List ℕ) (el : ℕ) (es more : List ℕ) (fl : ℕ) → IsLocal l ds calls el
+  pub one_more : (l : LocalTree) (ls : List LocalTree) (ds calls : List ℕ) (el : ℕ) (es more : List ℕ) (fl : ℕ)
+      → IsLocal l ds calls el
       → AreLocals ls es more fl → AreLocals (l ∷ ls) (ds ++ es) (calls ++ more) (el + fl)
   one_more l ls ds calls el es more fl is are =
       (ap₂ (λ (xs ys : List ℕ). xs ++ ys) is.0 are.0, ap₂ (λ (xs ys : List ℕ). xs ++ ys) is.1 are.1, ap₂ (λ (x y : ℕ). x + y) is.2 are.2, (is.3, are.3))

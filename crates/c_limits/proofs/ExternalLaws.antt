@@ -63,7 +63,8 @@ module _ (words : List Word) where
         names = ap (λ (r : Room). r.names) later.room ∙ sym (append-nil at.room.names);
       }
 
-  of_spends : (n : ℕ) (at rest : Place) (fr el fn : ℕ) → Spends at rest fr el fn → Good words n at.ahead → Filed n at rest [] fr el fn []
+  of_spends : (n : ℕ) (at rest : Place) (fr el fn : ℕ) → Spends at rest fr el fn → Good words n at.ahead
+      → Filed n at rest [] fr el fn []
   of_spends n at rest fr el fn spent good = record {
     m = n;
     tokens = (let same : n ≤ n = omega arith in same);
@@ -108,7 +109,8 @@ module _ (words : List Word) where
         names = g.names ∙ ap (λ (x : Names). x ++ more) f.names ∙ append_assoc at.room.names new more;
       }
 
-  filed_as : (n : ℕ) (at rest : Place) (ds es : List ℕ) (fr gr el fl fn gn : ℕ) (new more : Names) → ds ≡ es → fr ≡ gr → el ≡ fl
+  filed_as : (n : ℕ) (at rest : Place) (ds es : List ℕ) (fr gr el fl fn gn : ℕ) (new more : Names) → ds ≡ es → fr ≡ gr
+      → el ≡ fl
       → fn ≡ gn → new ≡ more → Filed n at rest ds fr el fn new → Filed n at rest es gr fl gn more
   filed_as n at rest ds es fr gr el fl fn gn new more a b c d e f =
       let x = f.frames in
@@ -128,7 +130,8 @@ module _ (words : List Word) where
   tokens_low n m [] h = h
   tokens_low n m (t ∷ ts) h = let first = h.0 in let rest = tokens_low (suc t) m ts h.2 in omega (arith, first, rest)
 
-  without_tokens : (n : ℕ) (at rest : Place) (ds : List ℕ) (fr el fn : ℕ) (new : Names) → Filed n at rest ds fr el fn new → Filed n at rest [] fr el fn new
+  without_tokens : (n : ℕ) (at rest : Place) (ds : List ℕ) (fr el fn : ℕ) (new : Names)
+      → Filed n at rest ds fr el fn new → Filed n at rest [] fr el fn new
   without_tokens n at rest ds fr el fn new f =
       record {
         m = f.m;
@@ -162,7 +165,8 @@ module _ (words : List Word) where
   unfolding global_array
   global_array_fits = fits_last words (array_fits words) (λ a ds calls el is. q_made words (GlobalArray a.0 a.1) (is.0, is.1, is.2, refl, refl))
 
-  object_names : (o p : Outcome) (n k : ℕ) (shape : ShapeTree) → names_of_shape words o n shape ≡ [] → names_of_shape words p k shape ≡ []
+  object_names : (o p : Outcome) (n k : ℕ) (shape : ShapeTree) → names_of_shape words o n shape ≡ []
+      → names_of_shape words p k shape ≡ []
   object_names o p n k (GlobalInteger c) e = refl
   object_names o p n k (GlobalArray s c) e = refl
   object_names o p n k (FunctionOf ps) e = absurd (let bad : (text_at words n, gives o) ∷ [] ≡ [] = e in cc)
@@ -186,7 +190,8 @@ module _ (words : List Word) where
   no_parameters (GlobalArray s c) e = refl
   no_parameters (FunctionOf ps) e = absurd (let bad : [] ≡ 0 ∷ [] = e in cc)
 
-  object_filed : (o : Outcome) (k n : ℕ) (at rest : Place) (d : DeclaratorTree) → (object o k).form.Spells at d rest → Good words n at.ahead
+  object_filed : (o : Outcome) (k n : ℕ) (at rest : Place) (d : DeclaratorTree) → (object o k).form.Spells at d rest
+      → Good words n at.ahead
       → (d.name ≡ k) × (tokens_of_shape 0 d.shape ≡ 0 ∷ []) × (names_of_shape words outcomes.Nothing 0 d.shape ≡ [])
       × Filed n at rest [] 1 (elements_of_shape words d.shape) 0 []
   unfolding object
@@ -222,7 +227,8 @@ module _ (words : List Word) where
   same_gives outcomes.Nothing = refl
   same_gives (outcomes.Integer i) = refl
 
-  declares_filed : (text : List ℕ) (b : Bool) (n : ℕ) (at rest : Place) (x : Unit {0}) → (declares text b).form.Spells at x rest
+  declares_filed : (text : List ℕ) (b : Bool) (n : ℕ) (at rest : Place) (x : Unit {0})
+      → (declares text b).form.Spells at x rest
       → Good words n at.ahead → Filed n at rest [] 0 0 0 ((text, b) ∷ [])
   unfolding declares
   declares_filed text b n at rest x s good =
@@ -260,7 +266,8 @@ module _ (words : List Word) where
     pub is : d ≡ record { name = t.number; shape = FunctionOf params }
     pub filed : Filed n at rest (tokens_of_parameters params) 0 0 0 ((t.text, gives o) ∷ [])
 
-  prototype_filed : (o : Outcome) (t : Seen) (n : ℕ) (at rest : Place) (d : DeclaratorTree) → (prototype o t).form.Spells at d rest
+  prototype_filed : (o : Outcome) (t : Seen) (n : ℕ) (at rest : Place) (d : DeclaratorTree)
+      → (prototype o t).form.Spells at d rest
       → Good words n at.ahead → IsPrototype o t n at rest d
   unfolding prototype
   prototype_filed o t n at rest d s good =
@@ -302,7 +309,8 @@ module _ (words : List Word) where
             (two_filed n at mid rest (t.number ∷ []) [] 0 1 0 (elements_of_shape words d.shape) 0 0 [] [] f obj.3);
       }
 
-  function_declarator : (o : Outcome) (t : Seen) (n : ℕ) (at mid rest : Place) (d : DeclaratorTree) → (f : Filed n at mid [] 0 0 0 [])
+  function_declarator : (o : Outcome) (t : Seen) (n : ℕ) (at mid rest : Place) (d : DeclaratorTree)
+      → (f : Filed n at mid [] 0 0 0 [])
       → IsIdentifier (text_at words t.number) → text_at words t.number ≡ t.text → (prototype o t).form.Spells mid d rest
       → IsDeclarator o n at rest d
   function_declarator o t n at mid rest d f is text s =
@@ -344,7 +352,8 @@ module _ (words : List Word) where
       let there = choice paren o t n at looked placed tree before seen.is seen.text tree_spelled in
       subst (λ (p : Place). IsDeclarator o n at p d) (sym end.1) (subst (λ (x : DeclaratorTree). IsDeclarator o n at placed x) (sym end.0) there)
 
-  further_filed : (o : Outcome) (n : ℕ) (at rest : Place) (d : DeclaratorTree) → (further_declarator o).form.Spells at d rest
+  further_filed : (o : Outcome) (n : ℕ) (at rest : Place) (d : DeclaratorTree)
+      → (further_declarator o).form.Spells at d rest
       → Good words n at.ahead → IsDeclarator o n at rest d
   unfolding further_declarator
   further_filed o n at rest d s good =
@@ -368,7 +377,8 @@ module _ (words : List Word) where
       (names_of_shape words o d.name d.shape)
   declared o n at rest d is = by_shape d.name d.shape is.filed
     where
-      by_shape : (k : ℕ) (shape : ShapeTree) → Filed n at rest (tokens_of_shape k shape ++ tokens_of_parameters (parameters_of shape))
+      by_shape : (k : ℕ) (shape : ShapeTree)
+          → Filed n at rest (tokens_of_shape k shape ++ tokens_of_parameters (parameters_of shape))
           (length (tokens_of_shape k shape)) (elements_of_shape words shape) 0 (names_of_shape words o k shape)
           → Filed n at rest (tokens_of_shape k shape) (length (tokens_of_shape k shape)) (elements_of_shape words shape) 0 (names_of_shape words o k shape)
       by_shape k (GlobalInteger c) f = f
@@ -390,7 +400,8 @@ module _ (words : List Word) where
 
   -- ---- functions that are defined
 
-  same_known : (text : List ℕ) (names : Names) (known : Bool) → latest_gives text known names ≡ known_after known text names
+  same_known : (text : List ℕ) (names : Names) (known : Bool)
+      → latest_gives text known names ≡ known_after known text names
   same_known text [] known = refl
   same_known text (d ∷ ds) known = same_known text ds (if bytes_eq d.0 text then d.1 else known)
 
@@ -402,7 +413,8 @@ module _ (words : List Word) where
   same_given names [] = refl
   same_given names (t ∷ ts) = ap₂ (λ (b : Bool) (n : ℕ). (if b then 1 else 0) + n) (gives_known (text_at words t) names) (same_given names ts)
 
-  open_body_filed : (count n : ℕ) (at rest : Place) (x : Unit {0}) → (open_body count).form.Spells at x rest → Good words n at.ahead
+  open_body_filed : (count n : ℕ) (at rest : Place) (x : Unit {0}) → (open_body count).form.Spells at x rest
+      → Good words n at.ahead
       → Filed n at rest [] count 0 1 []
   unfolding open_body
   open_body_filed count n at rest x s good =
@@ -515,7 +527,8 @@ module _ (words : List Word) where
   by_body true k o dn (GlobalArray size c) n at mid rest x may is s = absurd (let bad : false ≡ true = may refl in cc)
   by_body true k o dn (FunctionOf ps) n at mid rest x may is s = definition_filed k o dn ps n at mid rest x (may refl) is.named is.filed s
 
-  after_filed : (k : ℕ) (o : Outcome) (d : DeclaratorTree) (n : ℕ) (at mid rest : Place) (x : ExternalTree) → IsDeclarator o n at mid d
+  after_filed : (k : ℕ) (o : Outcome) (d : DeclaratorTree) (n : ℕ) (at mid rest : Place) (x : ExternalTree)
+      → IsDeclarator o n at mid d
       → (external_after k o d).form.Spells mid x rest → IsExternal n at rest x
   unfolding external_after sees_body
   after_filed k o d n at mid rest x is s =
@@ -527,7 +540,8 @@ module _ (words : List Word) where
       let there = by_body has_body k o d.name d.shape n at looked placed y may here tree_spelled in
       subst (λ (p : Place). IsExternal n at p x) (sym end.1) (subst (λ (y : ExternalTree). IsExternal n at placed y) (sym end.0) there)
 
-  pub external_filed : (n : ℕ) (at rest : Place) (x : ExternalTree) → external.form.Spells at x rest → Good words n at.ahead → IsExternal n at rest x
+  pub external_filed : (n : ℕ) (at rest : Place) (x : ExternalTree) → external.form.Spells at x rest
+      → Good words n at.ahead → IsExternal n at rest x
   unfolding external
   external_filed n at rest x s good =
       let (first, numbered, first_spelled, after_first) = s in
@@ -563,11 +577,13 @@ module _ (words : List Word) where
     pub functions : at.room.functions ≡ length (definitions xs) + rest.room.functions
     pub stand : FunctionsStand IsIdentifier units.Shallow words xs
 
-  defined_count : (x : ExternalTree) (xs : List ExternalTree) → length (definitions (x ∷ xs)) ≡ defined_in x + length (definitions xs)
+  defined_count : (x : ExternalTree) (xs : List ExternalTree)
+      → length (definitions (x ∷ xs)) ≡ defined_in x + length (definitions xs)
   defined_count (Declaration first o ds) xs = omega arith
   defined_count (Definition first o name params ss) xs = omega arith
 
-  pub externals_filed : (n : ℕ) (at : Place) (xs : List ExternalTree) (rest : Place) → InARow is_left external.form at xs rest
+  pub externals_filed : (n : ℕ) (at : Place) (xs : List ExternalTree) (rest : Place)
+      → InARow is_left external.form at xs rest
       → Good words n at.ahead → AreExternals n at rest xs
   externals_filed n at [] rest s good =
       let f = of_later n at rest (same_place at rest s) good in

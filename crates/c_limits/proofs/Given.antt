@@ -45,7 +45,8 @@ module _ (unit : UnitTree) (outer : Scope) (names : Names) (mirrors : Mirrors un
   abbrev defined : List ℕ
   defined = definitions unit.externals
 
-  call_given : (scopes : List Scope) (call : CallTree) (o : Outcome) → Inside outer scopes → IsCall words defined scopes call o → calls_in_call program call ≡ given words names (call.name ∷ [])
+  call_given : (scopes : List Scope) (call : CallTree) (o : Outcome) → Inside outer scopes
+      → IsCall words defined scopes call o → calls_in_call program call ≡ given words names (call.name ∷ [])
   call_given scopes call o within is =
       let f : ℕ = number_named words (functions_of unit) (text_at words call.name) in
       let at : slice_get (functions_of unit) f ≡ Some (function_at program f) = function_there program f (low_named words (record { scope = []; made = [] }) unit.externals (text_at words call.name) is.made) in
@@ -60,30 +61,42 @@ module _ (unit : UnitTree) (outer : Scope) (names : Names) (mirrors : Mirrors un
       one_more : (a b : ℕ) → a ≡ b → a ≡ b + 0
       one_more a b e = omega arith
 
-  value_given : (scopes : List Scope) (wanted : Scalar) (value : ValueTree) → Inside outer scopes → ValueSuits words defined scopes wanted value → calls_in_value program value ≡ given words names (names_called.calls_in_value value)
+  value_given : (scopes : List Scope) (wanted : Scalar) (value : ValueTree) → Inside outer scopes
+      → ValueSuits words defined scopes wanted value
+      → calls_in_value program value ≡ given words names (names_called.calls_in_value value)
   value_given scopes wanted (OfExpression e) within suits = refl
   value_given scopes wanted (OfCall call) within suits = call_given scopes call (outcomes.Integer suits.type) within suits.call_of
 
-  first_given : (scopes : List Scope) (wanted : Scalar) (first : Option ValueTree) → Inside outer scopes → IfValued words defined scopes wanted first → calls_in_first program first ≡ given words names (names_called.calls_if_valued first)
+  first_given : (scopes : List Scope) (wanted : Scalar) (first : Option ValueTree) → Inside outer scopes
+      → IfValued words defined scopes wanted first
+      → calls_in_first program first ≡ given words names (names_called.calls_if_valued first)
   first_given scopes wanted None within suits = refl
   first_given scopes wanted (Some value) within suits = value_given scopes wanted value within suits
 
-  effect_given : (scopes : List Scope) (effect : EffectTree) → Inside outer scopes → EffectStands words defined scopes effect → calls_in_effect program effect ≡ given words names (names_called.calls_in_effect effect)
+  effect_given : (scopes : List Scope) (effect : EffectTree) → Inside outer scopes
+      → EffectStands words defined scopes effect
+      → calls_in_effect program effect ≡ given words names (names_called.calls_in_effect effect)
   effect_given scopes (Assigns to token value) within stands = value_given scopes stands.0 value within stands.2
   effect_given scopes (Updates to op token e) within stands = refl
   effect_given scopes (Steps operand up token) within stands = refl
   effect_given scopes (Calls call) within stands = call_given scopes call stands.0 within stands.1
 
-  done_given : (scopes : List Scope) (effect : Option EffectTree) → Inside outer scopes → IfDone words defined scopes effect → calls_if program effect ≡ given words names (names_called.calls_if_done effect)
+  done_given : (scopes : List Scope) (effect : Option EffectTree) → Inside outer scopes
+      → IfDone words defined scopes effect
+      → calls_if program effect ≡ given words names (names_called.calls_if_done effect)
   done_given scopes None within stands = refl
   done_given scopes (Some effect) within stands = effect_given scopes effect within stands
 
-  shape_given : (scopes : List Scope) (kind : Integer) (shape : LocalShapeTree) → Inside outer scopes → ShapeStands words defined scopes kind shape → calls_in_shape program shape ≡ given words names (names_called.calls_in_shape shape)
+  shape_given : (scopes : List Scope) (kind : Integer) (shape : LocalShapeTree) → Inside outer scopes
+      → ShapeStands words defined scopes kind shape
+      → calls_in_shape program shape ≡ given words names (names_called.calls_in_shape shape)
   shape_given scopes kind (LocalInteger first) within stands = first_given scopes _ first within stands
   shape_given scopes kind (LocalPointer first) within stands = first_given scopes _ first within stands
   shape_given scopes kind (LocalArray size firsts) within stands = refl
 
-  locals_given : (kind : Integer) (scopes : List Scope) (locals : List LocalTree) → Inside outer scopes → LocalsStand words defined kind scopes locals → calls_in_locals program locals ≡ given words names (names_called.calls_in_locals locals)
+  locals_given : (kind : Integer) (scopes : List Scope) (locals : List LocalTree) → Inside outer scopes
+      → LocalsStand words defined kind scopes locals
+      → calls_in_locals program locals ≡ given words names (names_called.calls_in_locals locals)
   locals_given kind scopes [] within stands = refl
   locals_given kind scopes (local ∷ locals) within stands =
       let further : Inside outer (with_local kind scopes local) = with_inside outer (record { token = local.name; bound = local_bound kind local.shape }) scopes (local_none kind local.shape) within in
@@ -94,14 +107,18 @@ module _ (unit : UnitTree) (outer : Scope) (names : Names) (mirrors : Mirrors un
         locals_given kind (with_local kind scopes local) locals further stands.2,
       )
 
-  returned_given : (scopes : List Scope) (o : Outcome) (value : Option ValueTree) → Inside outer scopes → ReturnStands words defined scopes o value → calls_in_returned program value ≡ given words names (names_called.calls_if_valued value)
+  returned_given : (scopes : List Scope) (o : Outcome) (value : Option ValueTree) → Inside outer scopes
+      → ReturnStands words defined scopes o value
+      → calls_in_returned program value ≡ given words names (names_called.calls_if_valued value)
   returned_given scopes outcomes.Nothing None within stands = refl
   returned_given scopes outcomes.Nothing (Some value) within stands = absurd stands
   returned_given scopes (outcomes.Integer i) None within stands = absurd stands
   returned_given scopes (outcomes.Integer i) (Some value) within stands = value_given scopes _ value within stands
 
   mutual
-    statement_given : (around : Around) (scopes : List Scope) (s : Statement) → Inside outer scopes → StatementStands words defined around scopes s → calls_in program s ≡ given words names (names_called.calls_in s)
+    statement_given : (around : Around) (scopes : List Scope) (s : Statement) → Inside outer scopes
+        → StatementStands words defined around scopes s
+        → calls_in program s ≡ given words names (names_called.calls_in s)
     statement_given around scopes (Empty token) within stands = refl
     statement_given around scopes (Declares first kind locals) within stands = locals_given kind scopes locals within stands
     statement_given around scopes (Block body) within stands = statements_given (inside around) ([] ∷ scopes) body (deeper tt within) stands
@@ -141,7 +158,8 @@ module _ (unit : UnitTree) (outer : Scope) (names : Names) (mirrors : Mirrors un
     statement_given around scopes (Returns token value) within stands = returned_given scopes around.result value within stands
     statement_given around scopes (Does effect) within stands = effect_given scopes effect within stands
 
-    statements_given : (around : Around) (scopes : List Scope) (ss : Statements) → Inside outer scopes → StatementsStand words defined around scopes ss → calls_in_all program ss ≡ given words names (called_in ss)
+    statements_given : (around : Around) (scopes : List Scope) (ss : Statements) → Inside outer scopes
+        → StatementsStand words defined around scopes ss → calls_in_all program ss ≡ given words names (called_in ss)
     statements_given around scopes Nothing within stands = refl
     statements_given around scopes (Then s rest) within stands =
         omega (
@@ -152,11 +170,13 @@ module _ (unit : UnitTree) (outer : Scope) (names : Names) (mirrors : Mirrors un
         )
 
 -- parameters are no functions
-parameter_none : (scope : Scope) (name : Option ℕ) (kind : Scalar) → EachEntry NoFunction scope → EachEntry NoFunction (with_parameter scope name kind)
+parameter_none : (scope : Scope) (name : Option ℕ) (kind : Scalar) → EachEntry NoFunction scope
+    → EachEntry NoFunction (with_parameter scope name kind)
 parameter_none scope None kind each = each
 parameter_none scope (Some name) kind each = (refl, each)
 
-parameters_none : (scope : Scope) (params : List Parameter) → EachEntry NoFunction scope → EachEntry NoFunction (with_parameters scope params)
+parameters_none : (scope : Scope) (params : List Parameter) → EachEntry NoFunction scope
+    → EachEntry NoFunction (with_parameters scope params)
 parameters_none scope [] each = each
 parameters_none scope (p ∷ ps) each = parameters_none (with_parameter scope p.name p.kind) ps (parameter_none scope p.name p.kind each)
 
@@ -165,7 +185,8 @@ images_length f [] = refl
 images_length f (x ∷ xs) = ap suc (images_length f xs)
 
 module _ (unit : UnitTree) where
-  pub few_calls : (file : File) (xs : List ExternalTree) (names : Names) → ExternalsStand unit.words (definitions unit.externals) file xs → Mirrors unit.words file.scope names
+  pub few_calls : (file : File) (xs : List ExternalTree) (names : Names)
+      → ExternalsStand unit.words (definitions unit.externals) file xs → Mirrors unit.words file.scope names
       → ((i : ℕ) (function : Function) → slice_get (functions_in file xs) i ≡ Some function → EachScope (EntryAgrees unit) function.scopes)
       → all_frames_of unit.words names xs ≤ 256 → EachOf (HasFewCalls (program_of unit)) (functions_in file xs)
   few_calls file [] names stand mirrors agree few = tt
@@ -183,7 +204,8 @@ module _ (unit : UnitTree) where
       (omega arith, few_calls further xs known stand.1 now (λ i function at. agree (suc i) function at) (omega arith))
 
   -- the objects and the calls of functions that give something are no more than the frames that are counted
-  pub calls_counted : (file : File) (xs : List ExternalTree) (names : Names) (k : ℕ) → ExternalsStand unit.words (definitions unit.externals) file xs → Mirrors unit.words file.scope names
+  pub calls_counted : (file : File) (xs : List ExternalTree) (names : Names) (k : ℕ)
+      → ExternalsStand unit.words (definitions unit.externals) file xs → Mirrors unit.words file.scope names
       → ((i : ℕ) (function : Function) → slice_get (functions_in file xs) i ≡ Some function → EachScope (EntryAgrees unit) function.scopes)
       → FunctionsStand IsIdentifier Shallow unit.words xs
       → length (globals_in unit.words xs) + (length (owned_in unit.words k xs) + calls_of_all (program_of unit) (functions_in file xs)) ≤ all_frames_of unit.words names xs

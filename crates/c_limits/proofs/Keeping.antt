@@ -42,7 +42,8 @@ unfolding mark
 mark_keeps w o = one_keeps
 
 infixr 10 ◌>>>◌
-pub ◌>>>◌ : {A B : Type 0} {p : Form Seen Room Fault A} {q : A → Form Seen Room Fault B} → Keeps p → ((x : A) → Keeps (q x)) → Keeps (bound p q)
+pub ◌>>>◌ : {A B : Type 0} {p : Form Seen Room Fault A} {q : A → Form Seen Room Fault B} → Keeps p
+    → ((x : A) → Keeps (q x)) → Keeps (bound p q)
 hp >>> hq = record { each = λ at y rest s g. (hq s.0).each s.1 y rest s.3 (hp.each at s.0 s.1 s.2 g) }
 
 pub made_keeps : {A : Type 0} {a : A} → Keeps (made a)
@@ -51,15 +52,18 @@ made_keeps = record { each = λ at x rest s g. same at rest s.1 g }
 pub judged_keeps : {A : Type 0} {fit : Place → Result A Fault} → Keeps (judged fit)
 judged_keeps = record { each = λ at x rest s g. same at rest s.1 g }
 
-pub same_ahead : {A : Type 0} {p : Form Seen Room Fault A} → ((at : Place) (x : A) (rest : Place) → p.Spells at x rest → rest.ahead ≡ at.ahead) → Keeps p
+pub same_ahead : {A : Type 0} {p : Form Seen Room Fault A}
+    → ((at : Place) (x : A) (rest : Place) → p.Spells at x rest → rest.ahead ≡ at.ahead) → Keeps p
 same_ahead h = record { each = λ at x rest s g. subst (λ (ts : List Seen). Each Fine ts) (sym (h at x rest s)) g }
 
-pub either_keeps : {some : Bool} {A : Type 0} (b : Bool) (p q : Rule some A) → Keeps p.form → Keeps q.form → Keeps (either b p q).form
+pub either_keeps : {some : Bool} {A : Type 0} (b : Bool) (p q : Rule some A) → Keeps p.form → Keeps q.form
+    → Keeps (either b p q).form
 either_keeps true p q h i = h
 either_keeps false p q h i = i
 
 module _ {A : Type 0} (goes_on : Place → Bool) (p : Form Seen Room Fault A) where
-  maybe_each : Keeps p → (at : Place) (o : Option A) (rest : Place) → AtMostOne goes_on p at o rest → Each Fine at.ahead → Each Fine rest.ahead
+  maybe_each : Keeps p → (at : Place) (o : Option A) (rest : Place) → AtMostOne goes_on p at o rest → Each Fine at.ahead
+      → Each Fine rest.ahead
   maybe_each h at None rest s g = same at rest s.1 g
   maybe_each h at (Some x) rest s g = h.each at x rest s.1 g
 
@@ -68,10 +72,12 @@ module _ {A : Type 0} (goes_on : Place → Bool) (p : Form Seen Room Fault A) wh
 
 -- ---- one token
 
-one_made : {A : Type 0} {P : A → Type 0} (fit : Seen → Result A Fault) → ((t : Seen) (x : A) → Fine t → fit t ≡ Ok x → P x) → (ts : List Seen) (at : Place) (x : A)
+one_made : {A : Type 0} {P : A → Type 0} (fit : Seen → Result A Fault)
+    → ((t : Seen) (x : A) → Fine t → fit t ≡ Ok x → P x) → (ts : List Seen) (at : Place) (x : A)
     → fit_first (λ (at : Place). Syntax None) (λ (t : Seen) (at : Place). fit t) (first_of ts) at ≡ Ok x → Each Fine ts → P x
 one_made fit h [] at x e g = ok_no_err x (Syntax None) e
 one_made fit h (t ∷ ts) at x e g = h t x g.0 e
 
-pub one_makes : {A : Type 0} {P : A → Type 0} (fit : Seen → Result A Fault) → ((t : Seen) (x : A) → Fine t → fit t ≡ Ok x → P x) → Makes (one fit).form P
+pub one_makes : {A : Type 0} {P : A → Type 0} (fit : Seen → Result A Fault)
+    → ((t : Seen) (x : A) → Fine t → fit t ≡ Ok x → P x) → Makes (one fit).form P
 one_makes fit h = record { each = λ at x rest s g. (one_made fit h at.ahead at x s.0 g, same (after at) rest s.1 (others_fine at.ahead g)) }

@@ -71,7 +71,8 @@ label_tokens = record {
 
 -- ---- expressions
 
-binary_low : (op : Binary) (n : ℕ) (l r : Expression) → condition_labels (WithBinary op n l r) ≤ condition_labels l + 4 + condition_labels r
+binary_low : (op : Binary) (n : ℕ) (l r : Expression)
+    → condition_labels (WithBinary op n l r) ≤ condition_labels l + 4 + condition_labels r
 binary_low binary.Both n l r = omega arith
 binary_low binary.Either n l r = omega arith
 binary_low _ n l r = omega arith
@@ -80,10 +81,12 @@ unary_low : (op : Unary) (n : ℕ) (e : Expression) → condition_labels (WithUn
 unary_low unary.Not n e = omega arith
 unary_low _ n e = omega arith
 
-binary_heavy : (op : Binary) (n : ℕ) (l r : Expression) (a b m : ℕ) → One b → condition_labels l ≤ a → condition_labels r ≤ m → condition_labels (WithBinary op n l r) ≤ a + (b + m)
+binary_heavy : (op : Binary) (n : ℕ) (l r : Expression) (a b m : ℕ) → One b → condition_labels l ≤ a
+    → condition_labels r ≤ m → condition_labels (WithBinary op n l r) ≤ a + (b + m)
 binary_heavy op n l r a b m one low low' = let most = binary_low op n l r in omega (arith, most, one, low, low')
 
-unary_heavy : (op : Unary) (n : ℕ) (e : Expression) (m : ℕ) → condition_labels e ≤ m → condition_labels (WithUnary op n e) ≤ m
+unary_heavy : (op : Unary) (n : ℕ) (e : Expression) (m : ℕ) → condition_labels e ≤ m
+    → condition_labels (WithUnary op n e) ≤ m
 unary_heavy op n e m low = let most = unary_low op n e in omega (arith, most, low)
 
 index_heavy : (base : Expression) (n : ℕ) (i : Expression) (a m : ℕ) → condition_labels (AtIndex base n i) ≤ a + m

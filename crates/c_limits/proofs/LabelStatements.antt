@@ -22,7 +22,8 @@ block_cases _ = 0
 abbrev pub weight : Statement → ℕ
 weight s = is_case s + labels_in s + block_cases s
 
-pub any_assigning : (to : Expression) (last : Bool) → Quietly label_walk (assigning_mark to last).form (λ a. MayAssign (λ op. ⊤) a.0)
+pub any_assigning : (to : Expression) (last : Bool)
+    → Quietly label_walk (assigning_mark to last).form (λ a. MayAssign (λ op. ⊤) a.0)
 any_assigning to last = record { each = λ at x rest s. (0, (refl, all_may x.0), let low = (less (assigning_mark to last)).each at x rest s in omega (arith, low)) }
 
 -- ---- statements
@@ -33,20 +34,24 @@ Heavy s m = weight s ≤ m
 abbrev pub IfHeavy : Option Statement → ℕ → Type 0
 IfHeavy = IfThere label_walk Heavy
 
-pub controls_low : (c : Expression) (a m b : ℕ) → One a → condition_labels c ≤ m → One b → condition_labels c + 8 ≤ a + (m + b)
+pub controls_low : (c : Expression) (a m b : ℕ) → One a → condition_labels c ≤ m → One b
+    → condition_labels c + 8 ≤ a + (m + b)
 controls_low c a m b one low other = omega arith
 
 pub selects_low : (a m b : ℕ) → One a → One b → 8 ≤ a + (m + b)
 selects_low a m b one other = omega arith
 
-pub if_low : (c : Expression) (s : Statement) (e : Option Statement) (a m n : ℕ) → condition_labels c + 8 ≤ a → Heavy s m → IfHeavy e n → Heavy (if_of c s e) (a + (m + n))
+pub if_low : (c : Expression) (s : Statement) (e : Option Statement) (a m n : ℕ) → condition_labels c + 8 ≤ a
+    → Heavy s m → IfHeavy e n → Heavy (if_of c s e) (a + (m + n))
 if_low c s None a m n control low other = omega arith
 if_low c s (Some e) a m n control low other = omega arith
 
-pub while_low : (c : Expression) (s : Statement) (a m : ℕ) → condition_labels c + 8 ≤ a → Heavy s m → Heavy (tree.While c s) (a + m)
+pub while_low : (c : Expression) (s : Statement) (a m : ℕ) → condition_labels c + 8 ≤ a → Heavy s m
+    → Heavy (tree.While c s) (a + m)
 while_low c s a m control low = omega arith
 
-pub do_low : (s : Statement) (c : Expression) (m a : ℕ) → Heavy s m → condition_labels c + 8 ≤ a → Heavy (tree.Do s c) (m + a)
+pub do_low : (s : Statement) (c : Expression) (m a : ℕ) → Heavy s m → condition_labels c + 8 ≤ a
+    → Heavy (tree.Do s c) (m + a)
 do_low s c m a low control = omega arith
 
 pub for_low : (f : Option Statement) (c : Option Expression) (e : Option EffectTree) (s : Statement) (p a b d m : ℕ)
@@ -56,7 +61,8 @@ for_low None (Some c) e s p a b d m one first control low = omega arith
 for_low (Some f) None e s p a b d m one first control low = omega arith
 for_low (Some f) (Some c) e s p a b d m one first control low = omega arith
 
-pub switch_low : (e : Expression) (ss : Statements) (a m : ℕ) → 8 ≤ a → Heavy (tree.Block ss) m → Heavy (tree.Switch e ss) (a + m)
+pub switch_low : (e : Expression) (ss : Statements) (a m : ℕ) → 8 ≤ a → Heavy (tree.Block ss) m
+    → Heavy (tree.Switch e ss) (a + m)
 switch_low e ss a m control low = omega arith
 
 pub one_low : (m : ℕ) → One m → 1 ≤ m

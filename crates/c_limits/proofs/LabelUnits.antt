@@ -44,7 +44,8 @@ label_units = record {
 
 -- ---- functions
 
-one_of_all : (file : File) (xs : List ExternalTree) (f : ℕ) (function : Function) → slice_get (functions_in file xs) f ≡ Some function → labels_in_all function.body ≤ total external_weight xs
+one_of_all : (file : File) (xs : List ExternalTree) (f : ℕ) (function : Function)
+    → slice_get (functions_in file xs) f ≡ Some function → labels_in_all function.body ≤ total external_weight xs
 one_of_all file [] f function at = absurd (none-some function at)
 one_of_all file (Declaration first o ds ∷ xs) f function at = omega (arith, one_of_all (checks.external_after file (Declaration first o ds)) xs f function at)
 one_of_all file (Definition first o name params block ∷ xs) zero function at =
@@ -56,7 +57,8 @@ as_many : (bytes : List ℕ) (n : ℕ) (ts : List Lexeme) → length (numbered n
 as_many bytes n [] = refl
 as_many bytes n (t ∷ ts) = ap suc (as_many bytes (n + 1) ts)
 
-pub few_labels : (whole : UnitTree) → IsSpelled whole → (f : ℕ) (function : Function) → slice_get (functions_of whole) f ≡ Some function → labels_in_all function.body ≤ 4 * length whole.words
+pub few_labels : (whole : UnitTree) → IsSpelled whole → (f : ℕ) (function : Function)
+    → slice_get (functions_of whole) f ≡ Some function → labels_in_all function.body ≤ 4 * length whole.words
 few_labels whole spelled f function at =
     let trees = spelled.1.trees in
     let all = (unit_goes label_units).each (start spelled.0) whole.externals trees.0 trees.1 in

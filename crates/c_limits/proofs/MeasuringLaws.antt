@@ -9,7 +9,8 @@ use Rattle.c_limits.proofs.TakingLaws.{later_on, Takes}
 use Rattle.c_limits.specs.Measuring.{Tokens, given, Taken, Quietly, Fits}
 
 module _ (words : List Word) where
-  pub tokens_joined : (n m k : ℕ) (xs ys : List ℕ) → Tokens words n m xs → Tokens words m k ys → Tokens words n k (xs ++ ys)
+  pub tokens_joined : (n m k : ℕ) (xs ys : List ℕ) → Tokens words n m xs → Tokens words m k ys
+      → Tokens words n k (xs ++ ys)
   tokens_joined n m k [] ys h i = tokens_from n m k ys h i
     where
       tokens_from : (a b c : ℕ) (zs : List ℕ) → a ≤ b → Tokens words b c zs → Tokens words a c zs
@@ -17,13 +18,15 @@ module _ (words : List Word) where
       tokens_from a b c (z ∷ zs) low j = (let first = j.0 in omega (arith, low, first), j.1, j.2)
   tokens_joined n m k (x ∷ xs) ys h i = (h.0, h.1, tokens_joined (suc x) m k xs ys h.2 i)
 
-  pub given_joined : (names : List (List ℕ × Bool)) (xs ys : List ℕ) → given words names (xs ++ ys) ≡ (given words) names xs + (given words) names ys
+  pub given_joined : (names : List (List ℕ × Bool)) (xs ys : List ℕ)
+      → given words names (xs ++ ys) ≡ (given words) names xs + (given words) names ys
   given_joined names [] ys = omega arith
   given_joined names (x ∷ xs) ys = let rest = given_joined names xs ys in omega (arith, rest)
 
   -- ---- what is quiet
 
-  pub quiet_taken : (n : ℕ) (at rest : Place) (P : List ℕ → List ℕ → ℕ → Type 0) → Later at rest → Good words n at.ahead → P [] [] 0 → Taken words n at rest P
+  pub quiet_taken : (n : ℕ) (at rest : Place) (P : List ℕ → List ℕ → ℕ → Type 0) → Later at rest → Good words n at.ahead
+      → P [] [] 0 → Taken words n at rest P
   quiet_taken n at rest P later good holds = record {
     ds = [];
     calls = [];
@@ -39,7 +42,8 @@ module _ (words : List Word) where
   }
 
   -- what is taken after nothing was counted
-  after_quiet : (n : ℕ) (at mid rest : Place) (P : List ℕ → List ℕ → ℕ → Type 0) → Later at mid → Taken words n mid rest P → Taken words n at rest P
+  after_quiet : (n : ℕ) (at mid rest : Place) (P : List ℕ → List ℕ → ℕ → Type 0) → Later at mid
+      → Taken words n mid rest P → Taken words n at rest P
   after_quiet n at mid rest P later t =
       let room = later.room in
       record {
@@ -56,7 +60,8 @@ module _ (words : List Word) where
         holds = t.holds;
       }
 
-  before_quiet : (n : ℕ) (at mid rest : Place) (P Q : List ℕ → List ℕ → ℕ → Type 0) → (t : Taken words n at mid P) → Later mid rest
+  before_quiet : (n : ℕ) (at mid rest : Place) (P Q : List ℕ → List ℕ → ℕ → Type 0) → (t : Taken words n at mid P)
+      → Later mid rest
       → Q t.ds t.calls t.el → Taken words n at rest Q
   before_quiet n at mid rest P Q t later holds =
       let room = later.room in
@@ -122,7 +127,8 @@ module _ (words : List Word) where
         (later_on at s.1 rest a.0 b.0, b.1);
   }
 
-  pub fits_quiet : {A : Type 0} {p : Form Seen Room Fault A} {post : A → List ℕ → List ℕ → ℕ → Type 0} → Quietly words p (λ x. post x [] [] 0) → Fits words p post
+  pub fits_quiet : {A : Type 0} {p : Form Seen Room Fault A} {post : A → List ℕ → List ℕ → ℕ → Type 0}
+      → Quietly words p (λ x. post x [] [] 0) → Fits words p post
   fits_quiet {post = post} h = record { each = λ at x rest s n good. let a = h.each at x rest s in quiet_taken n at rest (post x) a.0 good a.1 }
 
   pub fits_after : {A B : Type 0} {p : Form Seen Room Fault A} {q : A → Form Seen Room Fault B} {R : A → Type 0} {post : B → List ℕ → List ℕ → ℕ → Type 0}
@@ -174,7 +180,8 @@ module _ (words : List Word) where
         → post (x ∷ xs) (ds ++ es) (calls ++ more) (el + fl)) → Fits words (row goes_on p) post
     fits_row post h none some = record { each = λ at xs rest s n good. row_each at xs rest s.0 n good }
       where
-        row_each : (at : Place) (xs : List A) (rest : Place) → InARow goes_on p at xs rest → (n : ℕ) → Good words n at.ahead → Taken words n at rest (post xs)
+        row_each : (at : Place) (xs : List A) (rest : Place) → InARow goes_on p at xs rest → (n : ℕ)
+            → Good words n at.ahead → Taken words n at rest (post xs)
         row_each at [] rest s n good =
             quiet_taken n at rest (post [])
             (record { good = λ words n g. subst (λ (p : Place). Good words n p.ahead) (sym s) g; room = ap (λ (p : Place). p.room) s }) good none

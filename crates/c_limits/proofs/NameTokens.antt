@@ -24,7 +24,8 @@ tokens_joined [] ps = refl
 tokens_joined (o ∷ os) ps = ap (λ (ts : List ℕ). o.token ∷ ts) (tokens_joined os ps)
 
 module _ (words : List Word) where
-  local_tokens : (f : ℕ) (kind : Integer) (locals : List LocalTree) → tokens (map (local_object words f kind) locals) ≡ counts.tokens_of locals
+  local_tokens : (f : ℕ) (kind : Integer) (locals : List LocalTree)
+      → tokens (map (local_object words f kind) locals) ≡ counts.tokens_of locals
   local_tokens f kind [] = refl
   local_tokens f kind (local ∷ locals) = ap (λ (ts : List ℕ). local.name ∷ ts) (local_tokens f kind locals)
 
@@ -57,22 +58,26 @@ module _ (words : List Word) where
   both true b e = (refl, e)
   both false b e = absurd (false≢true e)
 
-  one_parameter : (name : Option ℕ) (first : ℕ) → is_some name ≡ true → option_map_or (λ n. n) name first ∷ [] ≡ token_if name
+  one_parameter : (name : Option ℕ) (first : ℕ) → is_some name ≡ true
+      → option_map_or (λ n. n) name first ∷ [] ≡ token_if name
   one_parameter None first e = absurd (false≢true e)
   one_parameter (Some n) first e = refl
 
-  pub parameter_tokens : (f : ℕ) (params : List Parameter) → list_all (λ (p : Parameter). is_some p.name) params ≡ true → tokens (map (parameter_object f) params) ≡ tokens_of_parameters params
+  pub parameter_tokens : (f : ℕ) (params : List Parameter) → list_all (λ (p : Parameter). is_some p.name) params ≡ true
+      → tokens (map (parameter_object f) params) ≡ tokens_of_parameters params
   parameter_tokens f [] named = refl
   parameter_tokens f (p ∷ ps) named =
       let parts = both (is_some p.name) (list_all (λ (p : Parameter). is_some p.name) ps) named in
       ap₂ (λ (xs ys : List ℕ). xs ++ ys) (one_parameter p.name p.first parts.0) (parameter_tokens f ps parts.1)
 
-  shape_tokens : (kind : Integer) (name : ℕ) (shape : ShapeTree) → tokens (global_object words kind name shape) ≡ tokens_of_shape name shape
+  shape_tokens : (kind : Integer) (name : ℕ) (shape : ShapeTree)
+      → tokens (global_object words kind name shape) ≡ tokens_of_shape name shape
   shape_tokens kind name (GlobalInteger first) = refl
   shape_tokens kind name (GlobalArray size firsts) = refl
   shape_tokens kind name (FunctionOf params) = refl
 
-  pub declared_tokens : (kind : Integer) (ds : List DeclaratorTree) → tokens (globals_declared words kind ds) ≡ tokens_of_declarators ds
+  pub declared_tokens : (kind : Integer) (ds : List DeclaratorTree)
+      → tokens (globals_declared words kind ds) ≡ tokens_of_declarators ds
   declared_tokens kind [] = refl
   declared_tokens kind (d ∷ ds) = tokens_joined (global_object words kind d.name d.shape) (globals_declared words kind ds) ∙ ap₂ (λ (xs ys : List ℕ). xs ++ ys) (shape_tokens kind d.name d.shape) (declared_tokens kind ds)
 
@@ -114,12 +119,14 @@ module _ (words : List Word) where
           apart = (each_when (Lies (suc o.token) m) (OfOtherTokens o) os (λ p l. λ (e : o.token ≡ p.token). let a : suc o.token ≤ p.token = l.0 in absurd (omega arith)) r.lie, r.apart);
         }
 
-    pub across : (n k m : ℕ) (os ps : List Object) → EachOf (Lies n k) os → EachOf (Lies k m) ps → Across OfOtherTokens os ps
+    pub across : (n k m : ℕ) (os ps : List Object) → EachOf (Lies n k) os → EachOf (Lies k m) ps
+        → Across OfOtherTokens os ps
     across n k m os ps lie lie' =
         each_when (Lies n k) (λ (o : Object). EachOf (OfOtherTokens o) ps) os
         (λ o l. each_when (Lies k m) (OfOtherTokens o) ps (λ p l'. λ (e : o.token ≡ p.token). let a : o.token < k = l.1 in let b : k ≤ p.token = l'.0 in absurd (omega arith)) lie') lie
 
-    pub flipped : (n k m : ℕ) (os ps : List Object) → EachOf (Lies k m) os → EachOf (Lies n k) ps → Across OfOtherTokens os ps
+    pub flipped : (n k m : ℕ) (os ps : List Object) → EachOf (Lies k m) os → EachOf (Lies n k) ps
+        → Across OfOtherTokens os ps
     flipped n k m os ps lie lie' =
         each_when (Lies k m) (λ (o : Object). EachOf (OfOtherTokens o) ps) os
         (λ o l. each_when (Lies n k) (OfOtherTokens o) ps (λ p l'. λ (e : o.token ≡ p.token). let a : k ≤ o.token = l.0 in let b : p.token < k = l'.1 in absurd (omega arith)) lie') lie
@@ -143,9 +150,11 @@ module _ (words : List Word) where
     pub lower_row : (n k m : ℕ) (os : List Object) → n ≤ k → Row k m os → Row n m os
     lower_row n k m os low r = record { low = (let high : k ≤ m = r.low in omega arith); lie = wider k m n m os low (omega arith) r.lie; apart = r.apart }
 
-    pub across_left : (os ps qs : List Object) → Across OfOtherTokens os qs → Across OfOtherTokens ps qs → Across OfOtherTokens (os ++ ps) qs
+    pub across_left : (os ps qs : List Object) → Across OfOtherTokens os qs → Across OfOtherTokens ps qs
+        → Across OfOtherTokens (os ++ ps) qs
     across_left os ps qs a b = each_joined (λ (o : Object). EachOf (OfOtherTokens o) qs) os ps a b
 
-    pub across_right : (os ps qs : List Object) → Across OfOtherTokens os ps → Across OfOtherTokens os qs → Across OfOtherTokens os (ps ++ qs)
+    pub across_right : (os ps qs : List Object) → Across OfOtherTokens os ps → Across OfOtherTokens os qs
+        → Across OfOtherTokens os (ps ++ qs)
     across_right [] ps qs a b = tt
     across_right (o ∷ os) ps qs a b = (each_joined (OfOtherTokens o) ps qs a.0 b.0, across_right os ps qs a.1 b.1)

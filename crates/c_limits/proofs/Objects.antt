@@ -16,7 +16,8 @@ tokens_length [] = refl
 tokens_length (o ∷ os) = ap suc (tokens_length os)
 
 module _ (words : List Word) (IsNamed : List ℕ → Type 0) (P : Expression → Type 0) where
-  pub both_rows : (k n m : ℕ) (xs : List ExternalTree) → Ascends IsNamed words n m (all_tokens_of xs) → FunctionsStand IsNamed P words xs → Both words IsNamed n m (globals_in words xs) (owned_in words k xs)
+  pub both_rows : (k n m : ℕ) (xs : List ExternalTree) → Ascends IsNamed words n m (all_tokens_of xs)
+      → FunctionsStand IsNamed P words xs → Both words IsNamed n m (globals_in words xs) (owned_in words k xs)
   both_rows k n m [] up stand = record { globals = record { low = up; lie = tt; apart = tt }; owned = record { low = up; lie = tt; apart = tt }; across_both = tt }
   both_rows k n m (Declaration first o ds ∷ xs) up stand =
       let s : Split words IsNamed n m (tokens_of_declarators ds) (all_tokens_of xs) = split words IsNamed n m (tokens_of_declarators ds) (all_tokens_of xs) up in
@@ -47,7 +48,8 @@ module _ (words : List Word) (IsNamed : List ℕ → Type 0) (P : Expression →
       subst (λ (os : List Object). Both words IsNamed n m (globals_in words xs) os) (append_assoc ps ls others) all
 
   -- there are no more objects than frames
-  pub few_objects : (k : ℕ) (names : Names) (xs : List ExternalTree) → length (globals_in words xs) + length (owned_in words k xs) ≤ all_frames_of words names xs
+  pub few_objects : (k : ℕ) (names : Names) (xs : List ExternalTree)
+      → length (globals_in words xs) + length (owned_in words k xs) ≤ all_frames_of words names xs
   few_objects k names [] = omega arith
   few_objects k names (Declaration first o ds ∷ xs) =
       let here : List Object = globals_declared words (element_of o) ds in
@@ -71,7 +73,8 @@ module _ (words : List Word) (IsNamed : List ℕ → Type 0) (P : Expression →
       parameters_length k (p ∷ ps) = ap suc (parameters_length k ps)
 
   -- functions are named
-  pub functions_named : (file : File) (xs : List ExternalTree) → FunctionsStand IsNamed P words xs → EachOf (λ (function : Function). IsNamed (text_at words function.name)) (functions_in file xs)
+  pub functions_named : (file : File) (xs : List ExternalTree) → FunctionsStand IsNamed P words xs
+      → EachOf (λ (function : Function). IsNamed (text_at words function.name)) (functions_in file xs)
   functions_named file [] stand = tt
   functions_named file (Declaration first o ds ∷ xs) stand = functions_named (external_after file (Declaration first o ds)) xs stand.1
   functions_named file (Definition first o name params body ∷ xs) stand = (stand.0.0, functions_named (external_after file (Definition first o name params body)) xs stand.1)

@@ -31,7 +31,8 @@ module _ (words : List Word) where
     pub room : rest.room ≡ at.room
 
   pub record Marks {A : Type 0} (p : Form Seen Room Fault A) (D : A → List ℕ) : Type 0 where
-    pub each : (at : Place) (x : A) (rest : Place) → p.Spells at x rest → (n : ℕ) → Good words n at.ahead → Marked n at rest (D x)
+    pub each : (at : Place) (x : A) (rest : Place) → p.Spells at x rest → (n : ℕ) → Good words n at.ahead
+        → Marked n at rest (D x)
 
   quiet_marked : (n : ℕ) (at rest : Place) → Later at rest → Good words n at.ahead → Marked n at rest []
   quiet_marked n at rest later good = record { m = n; tokens = (let same : n ≤ n = omega arith in same); good = later.good words n good; room = later.room }
@@ -64,7 +65,8 @@ module _ (words : List Word) where
         };
   }
 
-  m_either : {some : Bool} {A : Type 0} {D : A → List ℕ} (b : Bool) (p q : Rule some A) → Marks p.form D → Marks q.form D → Marks (either b p q).form D
+  m_either : {some : Bool} {A : Type 0} {D : A → List ℕ} (b : Bool) (p q : Rule some A) → Marks p.form D
+      → Marks q.form D → Marks (either b p q).form D
   m_either true p q h i = h
   m_either false p q h i = i
 
@@ -117,7 +119,8 @@ module _ (words : List Word) where
       m_after comma_mark_takes (λ _. m_after next_number_takes
       (λ n. m_after (integer_type_takes settings.Parameter) (λ i. m_last (tail_marks n i) (λ p. q_made words p refl))))
 
-  row_marks : (at : Place) (ps : List Parameter) (rest : Place) → InARow at_list_comma further_parameter.form at ps rest → (n : ℕ)
+  row_marks : (at : Place) (ps : List Parameter) (rest : Place) → InARow at_list_comma further_parameter.form at ps rest
+      → (n : ℕ)
       → Good words n at.ahead → Marked n at rest (tokens_of_parameters ps)
   row_marks at [] rest s n good = quiet_marked n at rest (same_place at rest s) good
   row_marks at (p ∷ ps) rest s n good =

@@ -59,7 +59,8 @@ is_none false e = refl
 never : (logical : Bool) (e : Expression) → Good (logical && false) e → IsPlain e
 never logical e good = by_test (is_logical e) (λ t. absurd (false≢true (second_holds logical false (good.may t)))) (λ t. plain_of e good.plain t)
 
-binary_good : (min : ℕ) (logical : Bool) (op : Binary) (n : ℕ) (left right : Expression) → may_stand min logical left op ≡ true → Good logical left → Good (logical && joins_conditions op) right
+binary_good : (min : ℕ) (logical : Bool) (op : Binary) (n : ℕ) (left right : Expression)
+    → may_stand min logical left op ≡ true → Good logical left → Good (logical && joins_conditions op) right
     → Good logical (WithBinary op n left right)
 binary_good min logical binary.Both n left right stands l r = record { plain = (l.plain, r.plain); may = λ t. second_holds _ logical stands }
 binary_good min logical binary.Either n left right stands l r = record { plain = (l.plain, r.plain); may = λ t. second_holds _ logical stands }
@@ -68,7 +69,8 @@ binary_good min logical op n left right stands l r = record {
   may = λ t. absurd (false≢true t);
 }
 
-unary_good : (logical : Bool) (op : Unary) (n : ℕ) (e : Expression) → Good (logical && is_not op) e → Good logical (WithUnary op n e)
+unary_good : (logical : Bool) (op : Unary) (n : ℕ) (e : Expression) → Good (logical && is_not op) e
+    → Good logical (WithUnary op n e)
 unary_good logical unary.Not n e good = record { plain = good.plain; may = λ t. first_holds logical true (good.may t) }
 unary_good logical op n e good = record { plain = never logical e good; may = λ t. absurd (false≢true t) }
 
@@ -110,7 +112,9 @@ plain_expressions = record {
 }
 
 -- a call, where this is asked of its arguments
-pub fine_call : (Arguments : List Expression → Type 0) → ((p : ℕ) → Spelled fine_walk (arguments p).form (λ es m. Arguments es)) → (p : ℕ) → Spelled fine_walk (seen at_call (call p).form) (λ c m. Arguments c.arguments)
+pub fine_call : (Arguments : List Expression → Type 0)
+    → ((p : ℕ) → Spelled fine_walk (arguments p).form (λ es m. Arguments es)) → (p : ℕ)
+    → Spelled fine_walk (seen at_call (call p).form) (λ c m. Arguments c.arguments)
 unfolding call
 fine_call Arguments h p = seen_anywhere at_call (quiet_so some_token_keeps >>- λ t. open_paren_quiet plain_expressions >>- λ _. quiet_so (call_frame_keeps t.text) >>- λ _. h p >>! λ es m made. done (refl, made))
 

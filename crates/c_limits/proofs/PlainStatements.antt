@@ -36,7 +36,8 @@ is_none false e = refl
 abbrev pub IsPlainAssigning : Assigning × ℕ → Type 0
 IsPlainAssigning x = MayAssign IsPlainUpdate x.0
 
-assigning_made : (s : Symbol) (postfix : Bool) (o : Others) (t : Seen) (x : Assigning × ℕ) → is_plain_update s ≡ true → fits_assigning_of s postfix o t ≡ Ok x → IsPlainAssigning x
+assigning_made : (s : Symbol) (postfix : Bool) (o : Others) (t : Seen) (x : Assigning × ℕ) → is_plain_update s ≡ true
+    → fits_assigning_of s postfix o t ≡ Ok x → IsPlainAssigning x
 assigning_made symbols.Assign postfix o t x fine e = subst IsPlainAssigning (ok_is {F = Fault} (assigning.Assign, t.number) x e) tt
 assigning_made (symbols.Update op) postfix o t x fine e = subst IsPlainAssigning (ok_is {F = Fault} (assigning.Update op, t.number) x e) (is_none (is_of_conditions op) fine)
 assigning_made (symbols.Step up) true o t x fine e = subst IsPlainAssigning (ok_is {F = Fault} (assigning.Step up, t.number) x e) tt
@@ -61,11 +62,13 @@ pub first_made : (v : Option ValueTree) (m : Unit {0}) → IfThere fine_walk (λ
 first_made None m made = tt
 first_made (Some v) m made = made
 
-pub if_made : (c : Expression) (s : Statement) (e : Option Statement) (m : Unit {0}) → IsPlainCondition c → StatementIsPlain s → IfThere fine_walk (λ s m. StatementIsPlain s) e m → StatementIsPlain (if_of c s e)
+pub if_made : (c : Expression) (s : Statement) (e : Option Statement) (m : Unit {0}) → IsPlainCondition c
+    → StatementIsPlain s → IfThere fine_walk (λ s m. StatementIsPlain s) e m → StatementIsPlain (if_of c s e)
 if_made c s None m plain made other = (plain, made)
 if_made c s (Some e) m plain made other = (plain, made, other)
 
-pub condition_made : (c : Option Expression) (m : Unit {0}) → IfThere fine_walk (λ c m. IsPlainCondition c) c m → IfIsPlain c
+pub condition_made : (c : Option Expression) (m : Unit {0}) → IfThere fine_walk (λ c m. IsPlainCondition c) c m
+    → IfIsPlain c
 condition_made None m made = tt
 condition_made (Some c) m made = made
 
@@ -73,7 +76,9 @@ pub last_made : (e : Option EffectTree) (m : Unit {0}) → IfThere fine_walk (λ
 last_made None m made = tt
 last_made (Some e) m made = made
 
-pub for_made : (f : Option Statement) (c : Option Expression) (e : Option EffectTree) (s : Statement) (m : Unit {0}) → IfThere fine_walk (λ s m. StatementIsPlain s) f m → IfIsPlain c → LastIsPlain e → StatementIsPlain s → StatementIsPlain (for_of f c e s)
+pub for_made : (f : Option Statement) (c : Option Expression) (e : Option EffectTree) (s : Statement) (m : Unit {0})
+    → IfThere fine_walk (λ s m. StatementIsPlain s) f m → IfIsPlain c → LastIsPlain e → StatementIsPlain s
+    → StatementIsPlain (for_of f c e s)
 for_made None c e s m first plain last made = (plain, last, made)
 for_made (Some f) c e s m first plain last made = (first, plain, last, made)
 

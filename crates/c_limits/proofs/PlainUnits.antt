@@ -59,24 +59,28 @@ shallow_units = record {
 
 -- ---- functions
 
-plain_function : (file : File) (xs : List ExternalTree) → EachOf ExternalIsPlain xs → (f : ℕ) (function : Function) → slice_get (functions_in file xs) f ≡ Some function → StatementsArePlain function.body
+plain_function : (file : File) (xs : List ExternalTree) → EachOf ExternalIsPlain xs → (f : ℕ) (function : Function)
+    → slice_get (functions_in file xs) f ≡ Some function → StatementsArePlain function.body
 plain_function file [] plain f function at = absurd (none-some function at)
 plain_function file (Declaration first o ds ∷ xs) plain f function at = plain_function (checks.external_after file (Declaration first o ds)) xs plain.1 f function at
 plain_function file (Definition first o name params block ∷ xs) plain zero function at = subst (λ (g : Function). StatementsArePlain g.body) (same_Some _ function at) plain.0
 plain_function file (Definition first o name params block ∷ xs) plain (suc f) function at = plain_function (checks.external_after file (Definition first o name params block)) xs plain.1 f function at
 
-pub spelled_are_plain : (whole : UnitTree) → IsSpelled whole → (f : ℕ) (function : Function) → slice_get (functions_of whole) f ≡ Some function → StatementsArePlain function.body
+pub spelled_are_plain : (whole : UnitTree) → IsSpelled whole → (f : ℕ) (function : Function)
+    → slice_get (functions_of whole) f ≡ Some function → StatementsArePlain function.body
 spelled_are_plain whole spelled f function at =
     let trees = spelled.1.trees in
     plain_function (record { scope = []; made = [] }) whole.externals ((unit_goes plain_units).each (start spelled.0) whole.externals trees.0 trees.1 (tokens_fine 0 (tokens_of spelled.0))).0 f function at
 
-shallow_function : (file : File) (xs : List ExternalTree) → EachOf ExternalIsShallow xs → (f : ℕ) (function : Function) → slice_get (functions_in file xs) f ≡ Some function → StatementsAreShallow function.body
+shallow_function : (file : File) (xs : List ExternalTree) → EachOf ExternalIsShallow xs → (f : ℕ) (function : Function)
+    → slice_get (functions_in file xs) f ≡ Some function → StatementsAreShallow function.body
 shallow_function file [] plain f function at = absurd (none-some function at)
 shallow_function file (Declaration first o ds ∷ xs) plain f function at = shallow_function (checks.external_after file (Declaration first o ds)) xs plain.1 f function at
 shallow_function file (Definition first o name params block ∷ xs) plain zero function at = subst (λ (g : Function). StatementsAreShallow g.body) (same_Some _ function at) plain.0
 shallow_function file (Definition first o name params block ∷ xs) plain (suc f) function at = shallow_function (checks.external_after file (Definition first o name params block)) xs plain.1 f function at
 
-pub spelled_are_shallow : (whole : UnitTree) → IsSpelled whole → (f : ℕ) (function : Function) → slice_get (functions_of whole) f ≡ Some function → StatementsAreShallow function.body
+pub spelled_are_shallow : (whole : UnitTree) → IsSpelled whole → (f : ℕ) (function : Function)
+    → slice_get (functions_of whole) f ≡ Some function → StatementsAreShallow function.body
 spelled_are_shallow whole spelled f function at =
     let trees = spelled.1.trees in
     shallow_function (record { scope = []; made = [] }) whole.externals ((unit_goes shallow_units).each (start spelled.0) whole.externals trees.0 trees.1 (tokens_fine 0 (tokens_of spelled.0))).0 f function at

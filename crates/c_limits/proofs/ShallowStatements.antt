@@ -18,29 +18,36 @@ StatementIsShallow s = InStatement Shallow Shallow s
 abbrev pub StatementsAreShallow : Statements → Type 0
 StatementsAreShallow ss = InStatements Shallow Shallow ss
 
-pub any_assigning : (to : Expression) (last : Bool) → Quietly fine_walk (assigning_mark to last).form (λ a. MayAssign (λ op. ⊤) a.0)
+pub any_assigning : (to : Expression) (last : Bool)
+    → Quietly fine_walk (assigning_mark to last).form (λ a. MayAssign (λ op. ⊤) a.0)
 unfolding assigning_mark
 any_assigning to last = record { each = λ at x rest s g. ((refl, all_may x.0), one_keeps.each at x rest s g) }
 
 -- ---- what may be missing
 
-pub first_made : (v : Option ValueTree) (m : Unit {0}) → IfThere fine_walk (λ v m. InValue Shallow v) v m → IfValue Shallow v
+pub first_made : (v : Option ValueTree) (m : Unit {0}) → IfThere fine_walk (λ v m. InValue Shallow v) v m
+    → IfValue Shallow v
 first_made None m made = tt
 first_made (Some v) m made = made
 
-pub if_made : (c : Expression) (s : Statement) (e : Option Statement) (m : Unit {0}) → Shallow c → StatementIsShallow s → IfThere fine_walk (λ s m. StatementIsShallow s) e m → StatementIsShallow (if_of c s e)
+pub if_made : (c : Expression) (s : Statement) (e : Option Statement) (m : Unit {0}) → Shallow c → StatementIsShallow s
+    → IfThere fine_walk (λ s m. StatementIsShallow s) e m → StatementIsShallow (if_of c s e)
 if_made c s None m low made other = (low, made)
 if_made c s (Some e) m low made other = (low, made, other)
 
-pub condition_made : (c : Option Expression) (m : Unit {0}) → IfThere fine_walk (λ c m. Shallow c) c m → IfCondition Shallow c
+pub condition_made : (c : Option Expression) (m : Unit {0}) → IfThere fine_walk (λ c m. Shallow c) c m
+    → IfCondition Shallow c
 condition_made None m made = tt
 condition_made (Some c) m made = made
 
-pub last_made : (e : Option EffectTree) (m : Unit {0}) → IfThere fine_walk (λ e m. InEffect Shallow e) e m → IfEffect Shallow e
+pub last_made : (e : Option EffectTree) (m : Unit {0}) → IfThere fine_walk (λ e m. InEffect Shallow e) e m
+    → IfEffect Shallow e
 last_made None m made = tt
 last_made (Some e) m made = made
 
-pub for_made : (f : Option Statement) (c : Option Expression) (e : Option EffectTree) (s : Statement) (m : Unit {0}) → IfThere fine_walk (λ s m. StatementIsShallow s) f m → IfCondition Shallow c → IfEffect Shallow e → StatementIsShallow s → StatementIsShallow (for_of f c e s)
+pub for_made : (f : Option Statement) (c : Option Expression) (e : Option EffectTree) (s : Statement) (m : Unit {0})
+    → IfThere fine_walk (λ s m. StatementIsShallow s) f m → IfCondition Shallow c → IfEffect Shallow e
+    → StatementIsShallow s → StatementIsShallow (for_of f c e s)
 for_made None c e s m first low last made = (low, last, made)
 for_made (Some f) c e s m first low last made = (first, low, last, made)
 

@@ -12,7 +12,8 @@ pub record Strict {A : Type 0} (p : Form Seen Room Fault A) : Type 0 where
   pub each : (at : Place) (x : A) (rest : Place) → p.Spells at x rest → left rest < left at
 
 -- a rule leaves no more tokens, and one that takes some leaves fewer
-fewer : {A : Type 0} {some : Bool} (r : Rule some A) (at : Place) (x : A) (rest : Place) → r.form.Spells at x rest → Fewer some (left rest) (left at)
+fewer : {A : Type 0} {some : Bool} (r : Rule some A) (at : Place) (x : A) (rest : Place) → r.form.Spells at x rest
+    → Fewer some (left rest) (left at)
 fewer r at x rest s = r.exact.shrinks at (x, rest) (r.exact.alone at (Ok (x, rest)) s)
 
 no_more : (some : Bool) (a b : ℕ) → Fewer some a b → a ≤ b

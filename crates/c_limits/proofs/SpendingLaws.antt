@@ -30,7 +30,8 @@ pub record Spends (at rest : Place) (fr el fn : ℕ) : Type 0 where
   pub functions : at.room.functions ≡ fn + rest.room.functions
   pub names : rest.room.names ≡ at.room.names
 
-pub frames_spend : (count : ℕ) (at rest : Place) (x : Unit {0}) → (some_frames count).form.Spells at x rest → Spends at rest count 0 0
+pub frames_spend : (count : ℕ) (at rest : Place) (x : Unit {0}) → (some_frames count).form.Spells at x rest
+    → Spends at rest count 0 0
 unfolding some_frames
 frames_spend count at rest x s =
     let low = leb-true count at.room.frames s.0 in
@@ -46,7 +47,8 @@ frames_spend count at rest x s =
       names = ap (λ (r : Room). r.names) room;
     }
 
-pub elements_spend : (count : ℕ) (at rest : Place) (x : Unit {0}) → (some_elements count).form.Spells at x rest → Spends at rest 0 count 0
+pub elements_spend : (count : ℕ) (at rest : Place) (x : Unit {0}) → (some_elements count).form.Spells at x rest
+    → Spends at rest 0 count 0
 unfolding some_elements
 elements_spend count at rest x s =
     let low = leb-true count at.room.elements s.0 in
@@ -121,7 +123,8 @@ module _ (words : List Word) where
     pub good : Good words (suc x.number) rest.ahead
     pub room : rest.room ≡ at.room
 
-  pub name_seen : (o : Others) (n : ℕ) (at : Place) (x : Seen) (rest : Place) → (name o).form.Spells at x rest → Good words n at.ahead → IsNamed n at x rest
+  pub name_seen : (o : Others) (n : ℕ) (at : Place) (x : Seen) (rest : Place) → (name o).form.Spells at x rest
+      → Good words n at.ahead → IsNamed n at x rest
   unfolding name
   name_seen o n at x rest s good =
       let seen = token_seen (λ t. fits_name_of t.symbol o t) n at x rest s good in
@@ -177,7 +180,8 @@ module _ (words : List Word) where
 
   -- ---- arrays
 
-  is_constant : (s : Symbol) (o : Others) (t : Seen) (x : ℕ × ℕ) → fits_constant_of s o t ≡ Ok x → (s ≡ symbols.Constant x.1) × (t.number ≡ x.0)
+  is_constant : (s : Symbol) (o : Others) (t : Seen) (x : ℕ × ℕ) → fits_constant_of s o t ≡ Ok x
+      → (s ≡ symbols.Constant x.1) × (t.number ≡ x.0)
   is_constant (symbols.Constant n) o t x e =
       let same = ok_is {F = Fault} (t.number, n) x e in
       (ap (λ (p : ℕ × ℕ). symbols.Constant p.1) same, ap (λ (p : ℕ × ℕ). p.0) same)
@@ -188,7 +192,8 @@ module _ (words : List Word) where
     pub good : Good words n rest.ahead
     pub room : rest.room ≡ at.room
 
-  constant_seen : (o : Others) (n : ℕ) (at : Place) (x : ℕ × ℕ) (rest : Place) → (constant o).form.Spells at x rest → Good words n at.ahead → IsSize n at x rest
+  constant_seen : (o : Others) (n : ℕ) (at : Place) (x : ℕ × ℕ) (rest : Place) → (constant o).form.Spells at x rest
+      → Good words n at.ahead → IsSize n at x rest
   unfolding constant
   constant_seen o n at x rest s good =
       let seen = token_seen (λ t. fits_constant_of t.symbol o t) n at x rest s good in

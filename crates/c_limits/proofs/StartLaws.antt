@@ -154,7 +154,8 @@ abbrev is_some_identifier : Option Kind → Bool
 is_some_identifier None = false
 is_some_identifier (Some k) = is_identifier k
 
-pass : {A : Type 0} (b : Bool) (x y : Option Kind) → is_some_identifier x ≡ false → is_some_identifier (if b then x else y) ≡ true
+pass : {A : Type 0} (b : Bool) (x y : Option Kind) → is_some_identifier x ≡ false
+    → is_some_identifier (if b then x else y) ≡ true
     → (is_some_identifier y ≡ true → A) → A
 pass true x y h e f = absurd (let bad : false ≡ true = sym h ∙ e in cc)
 pass false x y h e f = f e
@@ -178,10 +179,12 @@ only_true : (b : Bool) (k : Kind) → is_some_identifier (only b k) ≡ true →
 only_true true k e = refl
 only_true false k e = absurd (let bad : false ≡ true = e in cc)
 
-letter_then : (b : ℕ) (bs : List ℕ) → is_letter b ≡ true → list_all is_word_byte bs ≡ true → list_all is_word_byte (b ∷ bs) ≡ true
+letter_then : (b : ℕ) (bs : List ℕ) → is_letter b ≡ true → list_all is_word_byte bs ≡ true
+    → list_all is_word_byte (b ∷ bs) ≡ true
 letter_then b bs l h = rw (l, h) refl
 
-more_words : (b c : ℕ) (cs : List ℕ) → is_some_identifier (kind_of_more b c cs) ≡ true → list_all is_word_byte (b ∷ c ∷ cs) ≡ true
+more_words : (b c : ℕ) (cs : List ℕ) → is_some_identifier (kind_of_more b c cs) ≡ true
+    → list_all is_word_byte (b ∷ c ∷ cs) ≡ true
 more_words b c cs e =
     pass (is_blank b) None _ refl e (λ e1. pass (opens_comment b c) (comment_kind (comment_end cs) cs) _ (comment_other (comment_end cs) cs) e1
     (λ e2. pass (opens_line_comment b c) (only (list_all in_line cs) kinds.White) _ (only_other (list_all in_line cs) kinds.White refl) e2
@@ -200,7 +203,8 @@ more_words b c cs e =
         if starts_number b c then only (is_number_rest false (c ∷ cs)) kinds.Number else if is_quote b then quoted_kind b
         (literal_end b (c ∷ cs)) (c ∷ cs) else only (is_punctuator (b ∷ c ∷ cs)) kinds.Punctuator
 
-    choose_kind : (x : Bool) (k l : Option Kind) → is_some_identifier k ≡ false → is_some_identifier l ≡ false → is_some_identifier (if x then k else l) ≡ false
+    choose_kind : (x : Bool) (k l : Option Kind) → is_some_identifier k ≡ false → is_some_identifier l ≡ false
+        → is_some_identifier (if x then k else l) ≡ false
     choose_kind true k l h i = h
     choose_kind false k l h i = i
 
@@ -209,7 +213,8 @@ more_words b c cs e =
         choose_kind (starts_number b c) _ _ (only_other (is_number_rest false (c ∷ cs)) kinds.Number refl)
         (choose_kind (is_quote b) _ _ (quoted_other b (literal_end b (c ∷ cs)) (c ∷ cs)) (only_other (is_punctuator (b ∷ c ∷ cs)) kinds.Punctuator refl))
 
-choose_one : (x : Bool) (k l : Kind) → is_identifier k ≡ false → is_identifier l ≡ false → is_identifier (if x then k else l) ≡ false
+choose_one : (x : Bool) (k l : Kind) → is_identifier k ≡ false → is_identifier l ≡ false
+    → is_identifier (if x then k else l) ≡ false
 choose_one true k l h i = h
 choose_one false k l h i = i
 
@@ -223,14 +228,16 @@ one_word b e =
     others : Kind
     others = if is_ascii_digit b then kinds.Number else if is_quote b then kinds.OpenLiteral else if is_single b then kinds.Punctuator else kinds.Other
 
-identifier_words : (text : List ℕ) → kind_of text ≡ Some kinds.Identifier → (1 ≤ length text) × (list_all is_word_byte text ≡ true)
+identifier_words : (text : List ℕ) → kind_of text ≡ Some kinds.Identifier
+    → (1 ≤ length text) × (list_all is_word_byte text ≡ true)
 unfolding kind_of
 identifier_words [] e = absurd (none-some kinds.Identifier e)
 identifier_words (b ∷ []) e = (omega arith, letter_then b [] (one_word b (ap is_some_identifier e)) refl)
 identifier_words (b ∷ c ∷ cs) e = (omega arith, more_words b c cs (ap is_some_identifier e))
 
 -- a token that is a name to the grammar is an identifier
-pub named_is_identifier : (kind : Kind) (text : List ℕ) → kind_of text ≡ Some kind → symbol_of kind text ≡ symbols.Name → IsIdentifier text
+pub named_is_identifier : (kind : Kind) (text : List ℕ) → kind_of text ≡ Some kind → symbol_of kind text ≡ symbols.Name
+    → IsIdentifier text
 named_is_identifier kinds.Identifier text k e = let w = identifier_words text k in record { some = w.0; short = word_short text e; bytes = w.1 }
 named_is_identifier kinds.Number text k e = constant_no_name (number_worth text) e
 named_is_identifier kinds.Character text k e = constant_no_name (character_worth text) e
@@ -259,10 +266,12 @@ no_worth w n none e = no_constant symbols.NoSymbol n refl (sym (ap constant_symb
 quote_is_no_number : (b : ℕ) (bs : List ℕ) → b ≡ 39 → number_worth (b ∷ bs) ≡ worths.NoConstant
 quote_is_no_number b bs is = ap (λ (x : ℕ). number_worth (x ∷ bs)) is
 
-no_quote : (q : ℕ) (rest : Bool) (x : Worth) → (q == 39) ≡ false → (if (q == 39) && rest then x else worths.NoConstant) ≡ worths.NoConstant
+no_quote : (q : ℕ) (rest : Bool) (x : Worth) → (q == 39) ≡ false
+    → (if (q == 39) && rest then x else worths.NoConstant) ≡ worths.NoConstant
 no_quote q rest x f = rw f refl
 
-no_quotes : (q : ℕ) (r s : Bool) (x : Worth) → (q == 39) ≡ false → (if (q == 39) && r && s then x else worths.NoConstant) ≡ worths.NoConstant
+no_quotes : (q : ℕ) (r s : Bool) (x : Worth) → (q == 39) ≡ false
+    → (if (q == 39) && r && s then x else worths.NoConstant) ≡ worths.NoConstant
 no_quotes q r s x f = rw f refl
 
 unquoted : (b : ℕ) (bs : List ℕ) → (b == 39) ≡ false → character_worth (b ∷ bs) ≡ worths.NoConstant
@@ -272,17 +281,20 @@ unquoted b (c ∷ r ∷ []) f = no_quote b (r == 39) (plain_character c) f
 unquoted b (s ∷ e ∷ r ∷ []) f = no_quotes b (s == 92) (r == 39) (escaped_character e) f
 unquoted b (s ∷ e ∷ r ∷ t ∷ ts) f = refl
 
-text_worth : (b : ℕ) (bs : List ℕ) (v : Bool) → (b == 39) ≡ v → worth_of_text (b ∷ bs) ≡ (if v then character_worth (b ∷ bs) else number_worth (b ∷ bs))
+text_worth : (b : ℕ) (bs : List ℕ) (v : Bool) → (b == 39) ≡ v
+    → worth_of_text (b ∷ bs) ≡ (if v then character_worth (b ∷ bs) else number_worth (b ∷ bs))
 text_worth b bs v e = ap (λ (x : Bool). if x then character_worth (b ∷ bs) else number_worth (b ∷ bs)) e
 
-number_is_worth : (text : List ℕ) (n : ℕ) → constant_symbol (number_worth text) ≡ symbols.Constant n → number_of (worth_of_text text) ≡ n
+number_is_worth : (text : List ℕ) (n : ℕ) → constant_symbol (number_worth text) ≡ symbols.Constant n
+    → number_of (worth_of_text text) ≡ n
 number_is_worth [] n e = no_constant symbols.NoSymbol n refl e
 number_is_worth (b ∷ bs) n e =
     by_test (b == 39)
     (λ t. absurd (no_worth (number_worth (b ∷ bs)) n (quote_is_no_number b bs (eqb-true b 39 t)) e))
     (λ f. ap number_of (text_worth b bs false f) ∙ worth_number (number_worth (b ∷ bs)) n e)
 
-character_is_worth : (text : List ℕ) (n : ℕ) → constant_symbol (character_worth text) ≡ symbols.Constant n → number_of (worth_of_text text) ≡ n
+character_is_worth : (text : List ℕ) (n : ℕ) → constant_symbol (character_worth text) ≡ symbols.Constant n
+    → number_of (worth_of_text text) ≡ n
 character_is_worth [] n e = no_constant symbols.NoSymbol n refl e
 character_is_worth (b ∷ bs) n e =
     by_test (b == 39)
@@ -290,7 +302,8 @@ character_is_worth (b ∷ bs) n e =
     (λ f. absurd (no_worth (character_worth (b ∷ bs)) n (unquoted b bs f) e))
 
 -- a token that is a constant to the grammar is worth its number
-pub constant_is_worth : (kind : Kind) (text : List ℕ) (n : ℕ) → symbol_of kind text ≡ symbols.Constant n → number_of (worth_of_text text) ≡ n
+pub constant_is_worth : (kind : Kind) (text : List ℕ) (n : ℕ) → symbol_of kind text ≡ symbols.Constant n
+    → number_of (worth_of_text text) ≡ n
 constant_is_worth kinds.Identifier text n e = absurd (let bad : false ≡ true = sym (word_plain text) ∙ ap is_number e in cc)
 constant_is_worth kinds.Number text n e = number_is_worth text n e
 constant_is_worth kinds.Character text n e = character_is_worth text n e
@@ -324,7 +337,8 @@ good_from_text words n (t ∷ ts) at of =
     )
 
 -- the tokens of a text are those of its words
-pub good_start : (bytes : List ℕ) (ts : List Lexeme) → EachOf IsOfKind ts → Good (map (word_of bytes) ts) 0 (numbered 0 ts)
+pub good_start : (bytes : List ℕ) (ts : List Lexeme) → EachOf IsOfKind ts
+    → Good (map (word_of bytes) ts) 0 (numbered 0 ts)
 good_start bytes ts of =
     good_from_text (map (word_of bytes) ts) 0 ts
     (λ i t there.

@@ -75,7 +75,8 @@ module _ (words : List Word) where
   stays : (at : Place) (P : Counts → Type 0) → P nothing → Counting at P at
   stays at P h n good = quiet_taken words n at at (OfCounts P) (same_place at at refl) good h
 
-  goes_on : (at mid rest : Place) (P Q : Counts → Type 0) → Counting at P mid → ((m : Counts) → P m → Counting mid (λ n. Q (joins m n)) rest) → Counting at Q rest
+  goes_on : (at mid rest : Place) (P Q : Counts → Type 0) → Counting at P mid
+      → ((m : Counts) → P m → Counting mid (λ n. Q (joins m n)) rest) → Counting at Q rest
   goes_on at mid rest P Q hp hq n good =
       let t = hp n good in
       let u = hq (t.ds, t.calls, t.el) t.holds t.m t.good in
@@ -97,14 +98,16 @@ module _ (words : List Word) where
   quiet_so : {A : Type 0} {p : Form Seen Room Fault A} → Takes p → Quiet count_walk p
   quiet_so h = record { each = λ at x rest s n good. quiet_taken words n at rest (OfCounts (λ m. m ≡ nothing)) (h.each at x rest s) good refl }
 
-  quietly_so : {A : Type 0} {p : Form Seen Room Fault A} {R : A → Type 0} → Quietly words p R → walks.Quietly count_walk p R
+  quietly_so : {A : Type 0} {p : Form Seen Room Fault A} {R : A → Type 0} → Quietly words p R
+      → walks.Quietly count_walk p R
   quietly_so {R = R} h = record {
     each = λ at x rest s n good.
         let k = h.each at x rest s in
         quiet_taken words n at rest (OfCounts (λ m. (m ≡ nothing) × R x)) k.0 good (refl, k.1);
   }
 
-  fits_so : {A : Type 0} {p : Form Seen Room Fault A} {post : A → List ℕ → List ℕ → ℕ → Type 0} → Fits words p post → Spelled count_walk p (λ x m. post x m.0 m.1 m.2)
+  fits_so : {A : Type 0} {p : Form Seen Room Fault A} {post : A → List ℕ → List ℕ → ℕ → Type 0} → Fits words p post
+      → Spelled count_walk p (λ x m. post x m.0 m.1 m.2)
   fits_so h = record { each = λ at x rest s n good. h.each at x rest s n good }
 
   -- nothing is counted first, or last
@@ -127,7 +130,8 @@ module _ (words : List Word) where
   unfolding some_token
   some_takes = one_takes fits_any
 
-  any_assigning : (to : Expression) (last : Bool) → walks.Quietly count_walk (assigning_mark to last).form (λ a. MayAssign (λ op. ⊤) a.0)
+  any_assigning : (to : Expression) (last : Bool)
+      → walks.Quietly count_walk (assigning_mark to last).form (λ a. MayAssign (λ op. ⊤) a.0)
   unfolding assigning_mark
   any_assigning to last = record {
     each = λ at x rest s n good. quiet_taken words n at rest (OfCounts (λ m. (m ≡ nothing) × MayAssign (λ op. ⊤) x.0)) ((one_takes _).each at x rest s) good (refl, all_may x.0);
@@ -159,19 +163,22 @@ module _ (words : List Word) where
   abbrev OneLocal : LocalTree → Counts → Type 0
   OneLocal l m = IsLocal words l m.0 m.1 m.2
 
-  pointer_is : (n : ℕ) (v : Option ValueTree) (a m : Counts) → Named n a → IfThere count_walk Assigned v m → OneLocal (record { name = n; shape = LocalPointer v }) (joins a m)
+  pointer_is : (n : ℕ) (v : Option ValueTree) (a m : Counts) → Named n a → IfThere count_walk Assigned v m
+      → OneLocal (record { name = n; shape = LocalPointer v }) (joins a m)
   pointer_is n v a m named h =
       let is = first_is v m h in
       subst (λ (z : Counts). OneLocal (record { name = n; shape = LocalPointer v }) (joins z m)) (sym named)
       (ap (λ (xs : List ℕ). n ∷ xs) is.0, is.1, none_yet m.2 ∙ is.2, is.3)
 
-  integer_is : (n : ℕ) (v : Option ValueTree) (a m : Counts) → Named n a → IfThere count_walk Assigned v m → OneLocal (record { name = n; shape = LocalInteger v }) (joins a m)
+  integer_is : (n : ℕ) (v : Option ValueTree) (a m : Counts) → Named n a → IfThere count_walk Assigned v m
+      → OneLocal (record { name = n; shape = LocalInteger v }) (joins a m)
   integer_is n v a m named h =
       let is = first_is v m h in
       subst (λ (z : Counts). OneLocal (record { name = n; shape = LocalInteger v }) (joins z m)) (sym named)
       (ap (λ (xs : List ℕ). n ∷ xs) is.0, is.1, none_yet m.2 ∙ is.2, is.3)
 
-  array_is : (n s : ℕ) (cs : Option (List Constant)) (a m : Counts) → Named n a → Sized s m → OneLocal (record { name = n; shape = LocalArray s cs }) (joins a m)
+  array_is : (n s : ℕ) (cs : Option (List Constant)) (a m : Counts) → Named n a → Sized s m
+      → OneLocal (record { name = n; shape = LocalArray s cs }) (joins a m)
   array_is n s cs a m named is =
       subst (λ (z : Counts). OneLocal (record { name = n; shape = LocalArray s cs }) (joins z m)) (sym named)
       (ap (λ (xs : List ℕ). n ∷ xs) is.0, is.1, none_yet m.2 ∙ is.2, tt)
@@ -267,7 +274,8 @@ module _ (words : List Word) where
   last_is None m h = subst (λ (z : Counts). IsLast None z.0 z.1 z.2) (sym h) (refl, refl, refl, tt)
   last_is (Some e) m h = h
 
-  quiet_condition : (c : Option Expression) (m : Counts) → IfThere count_walk Quiets c m → (m ≡ nothing) × IfCondition Shallow c
+  quiet_condition : (c : Option Expression) (m : Counts) → IfThere count_walk Quiets c m
+      → (m ≡ nothing) × IfCondition Shallow c
   quiet_condition None m h = (h, tt)
   quiet_condition (Some c) m h = h
 

@@ -40,7 +40,8 @@ unfolding mark
 mark_takes w o = one_takes (fits_text w o)
 
 infixr 10 ◌>>>◌
-pub ◌>>>◌ : {A B : Type 0} {p : Form Seen Room Fault A} {q : A → Form Seen Room Fault B} → Takes p → ((x : A) → Takes (q x)) → Takes (bound p q)
+pub ◌>>>◌ : {A B : Type 0} {p : Form Seen Room Fault A} {q : A → Form Seen Room Fault B} → Takes p
+    → ((x : A) → Takes (q x)) → Takes (bound p q)
 hp >>> hq = record { each = λ at y rest s. later_on at s.1 rest (hp.each at s.0 s.1 s.2) ((hq s.0).each s.1 y rest s.3) }
 
 pub made_takes : {A : Type 0} {a : A} → Takes (made a)
@@ -59,7 +60,8 @@ module _ {A : Type 0} (goes_on : Place → Bool) (p : Form Seen Room Fault A) wh
 
 -- ---- as a walk
 
-pub later_on_to : (at mid rest : Place) (P Q : Unit {0} → Type 0) → Later at mid × P tt → ((m : Unit {0}) → P m → Later mid rest × Q tt) → Later at rest × Q tt
+pub later_on_to : (at mid rest : Place) (P Q : Unit {0} → Type 0) → Later at mid × P tt
+    → ((m : Unit {0}) → P m → Later mid rest × Q tt) → Later at rest × Q tt
 later_on_to at mid rest P Q hp hq = let k = hq tt hp.1 in (later_on at mid rest hp.0 k.0, k.1)
 
 abbrev pub later_walk : Walk

@@ -93,12 +93,14 @@ module _ (program : Program) (f : ℕ) where
   shape_light c (LocalPointer first) = first_light c first
   shape_light c (LocalArray size firsts) = omega arith
 
-  local_bytes : (kind : Integer) (shape : LocalShapeTree) → bits_of_local program.words kind shape / 8 ≤ 4 + 4 * counts.elements_of program.words shape
+  local_bytes : (kind : Integer) (shape : LocalShapeTree)
+      → bits_of_local program.words kind shape / 8 ≤ 4 + 4 * counts.elements_of program.words shape
   local_bytes kind (LocalInteger first) = let low = type_bytes kind in omega (arith, low)
   local_bytes kind (LocalPointer first) = omega arith
   local_bytes kind (LocalArray size firsts) = let low = array_bytes kind (count_at program.words size) in omega (arith, low)
 
-  locals_light : (kind : Integer) (locals : List LocalTree) (c : ℕ) → IsLight (locals_frames program f c kind locals) (elements_of_all program.words locals)
+  locals_light : (kind : Integer) (locals : List LocalTree) (c : ℕ)
+      → IsLight (locals_frames program f c kind locals) (elements_of_all program.words locals)
   locals_light kind [] c = omega arith
   locals_light kind (local ∷ locals) c =
       let here = local_bytes kind local.shape in
@@ -131,7 +133,8 @@ module _ (program : Program) (f : ℕ) where
     statement_light (Returns token value) c = first_light c value
     statement_light (Does effect) c = effect_light c effect
 
-    pub all_light : (ss : Statements) (c : ℕ) → IsLight (all_frames_in program f c ss) (all_elements_in program.words ss)
+    pub all_light : (ss : Statements) (c : ℕ)
+        → IsLight (all_frames_in program f c ss) (all_elements_in program.words ss)
     all_light Nothing c = omega arith
     all_light (Then s rest) c = light_joined (frames_in program f c s) _ (elements_in program.words s) _ (statement_light s c) (all_light rest (c + calls_in program s))
 
@@ -140,7 +143,8 @@ module _ (program : Program) where
   parameters_light [] = omega arith
   parameters_light (p ∷ ps) = let here = scalar_bytes p.kind in let rest = parameters_light ps in omega (arith, here, rest)
 
-  functions_light : (file : File) (xs : List ExternalTree) (f : ℕ) → IsLight (flat_map own_frames (lowered_from program f (functions_in file xs))) (all_elements_of program.words xs)
+  functions_light : (file : File) (xs : List ExternalTree) (f : ℕ)
+      → IsLight (flat_map own_frames (lowered_from program f (functions_in file xs))) (all_elements_of program.words xs)
   functions_light file [] f = omega arith
   functions_light file (Declaration first o ds ∷ xs) f = let rest = functions_light (external_after file (Declaration first o ds)) xs f in omega (arith, rest)
   functions_light file (Definition first o name params body ∷ xs) f =
@@ -155,7 +159,8 @@ module _ (program : Program) where
   no_frame o None own is = absurd (own is)
   no_frame o (Some g) own is = ap (λ (x : Option ℕ). option_map_or (λ owner. []) x (object_frame program o.token o.bits ∷ [])) is
 
-  owned_frames : (os : List Object) → EachOf (λ (o : Object). o.owner ≢ None) os → flat_map (global_frame program) os ≡ []
+  owned_frames : (os : List Object) → EachOf (λ (o : Object). o.owner ≢ None) os
+      → flat_map (global_frame program) os ≡ []
   owned_frames [] own = refl
   owned_frames (o ∷ os) own = ap (λ (xs : List Allocation). xs ++ flat_map (global_frame program) os) (no_frame o o.owner own.0 refl) ∙ owned_frames os own.1
 
@@ -168,14 +173,16 @@ module _ (program : Program) where
   shape_frames_light i name (GlobalArray size firsts) = let low = array_bytes i (count_at program.words size) in omega (arith, low)
   shape_frames_light i name (FunctionOf params) = omega arith
 
-  flat_light : (xs ys : List Object) (m n : ℕ) → IsLight (flat_map (global_frame program) xs) m → IsLight (flat_map (global_frame program) ys) n → IsLight (flat_map (global_frame program) (xs ++ ys)) (m + n)
+  flat_light : (xs ys : List Object) (m n : ℕ) → IsLight (flat_map (global_frame program) xs) m
+      → IsLight (flat_map (global_frame program) ys) n → IsLight (flat_map (global_frame program) (xs ++ ys)) (m + n)
   flat_light xs ys m n h i = subst (λ (zs : List Allocation). IsLight zs (m + n)) (sym (flat_joined xs ys)) (light_joined (flat_map (global_frame program) xs) (flat_map (global_frame program) ys) m n h i)
 
   declared_light : (i : Integer) (ds : List DeclaratorTree) → IsLight (flat_map (global_frame program) (globals_declared program.words i ds)) (elements_of_declarators program.words ds)
   declared_light i [] = omega arith
   declared_light i (d ∷ ds) = flat_light (global_object program.words i d.name d.shape) (globals_declared program.words i ds) (elements_of_shape program.words d.shape) (elements_of_declarators program.words ds) (shape_frames_light i d.name d.shape) (declared_light i ds)
 
-  globals_light : (xs : List ExternalTree) → IsLight (flat_map (global_frame program) (globals_in program.words xs)) (all_elements_of program.words xs)
+  globals_light : (xs : List ExternalTree)
+      → IsLight (flat_map (global_frame program) (globals_in program.words xs)) (all_elements_of program.words xs)
   globals_light [] = omega arith
   globals_light (Declaration first o ds ∷ xs) = flat_light (globals_declared program.words (element_of o) ds) (globals_in program.words xs) (elements_of_declarators program.words ds) (all_elements_of program.words xs) (declared_light (element_of o) ds) (globals_light xs)
   globals_light (Definition first o name params body ∷ xs) = let rest = globals_light xs in omega (arith, rest)
@@ -196,7 +203,8 @@ module _ (unit : UnitTree) where
       let all = light_joined (global_frames whole) (flat_map own_frames (lowered unit).funcs) (e + 0) e first second in
       omega (arith, all)
 
-  pub few_bytes : (IsNamed : List ℕ → Type 0) → IsCounted IsNamed unit → length (frames_of (lowered unit)) ≤ most_frames → sum_by frame_bytes (frames_of (lowered unit)) ≤ most_bytes_of_frames
+  pub few_bytes : (IsNamed : List ℕ → Type 0) → IsCounted IsNamed unit → length (frames_of (lowered unit)) ≤ most_frames
+      → sum_by frame_bytes (frames_of (lowered unit)) ≤ most_bytes_of_frames
   few_bytes IsNamed counted few =
       let light = all_frames_light in
       let sum = sum_is (frames_of (lowered unit)) in

@@ -41,4 +41,5 @@ module _ (words : List Word) where
     pub each : (at : Place) (x : A) (rest : Place) → p.Spells at x rest → Later at rest × R x
 
   pub record Fits {A : Type 0} (p : Form Seen Room Fault A) (post : A → List ℕ → List ℕ → ℕ → Type 0) : Type 0 where
-    pub each : (at : Place) (x : A) (rest : Place) → p.Spells at x rest → (n : ℕ) → Good words n at.ahead → Taken n at rest (post x)
+    pub each : (at : Place) (x : A) (rest : Place) → p.Spells at x rest → (n : ℕ) → Good words n at.ahead
+        → Taken n at rest (post x)

@@ -43,17 +43,20 @@ scalar_small (scalars.Integer i) = type_small i
 scalar_small (scalars.Pointer i) = omega arith
 
 module _ (words : List Word) where
-  local_small : (kind : Integer) (shape : LocalShapeTree) → counts.elements_of words shape ≤ most_elements → bits_of_local words kind shape ≤ 262144
+  local_small : (kind : Integer) (shape : LocalShapeTree) → counts.elements_of words shape ≤ most_elements
+      → bits_of_local words kind shape ≤ 262144
   local_small kind (LocalInteger first) few = type_small kind
   local_small kind (LocalPointer first) few = omega arith
   local_small kind (LocalArray size firsts) few = array_small kind (count_at words size) few
 
-  locals_small : (f : ℕ) (kind : Integer) (locals : List LocalTree) → elements_of_all words locals ≤ most_elements → EachOf IsSmall (map (local_object words f kind) locals)
+  locals_small : (f : ℕ) (kind : Integer) (locals : List LocalTree) → elements_of_all words locals ≤ most_elements
+      → EachOf IsSmall (map (local_object words f kind) locals)
   locals_small f kind [] few = tt
   locals_small f kind (local ∷ locals) few = (local_small kind local.shape (omega (arith, few)), locals_small f kind locals (omega (arith, few)))
 
   mutual
-    statement_small : (f : ℕ) (s : Statement) → elements_in words s ≤ most_elements → EachOf IsSmall (locals_in words f s)
+    statement_small : (f : ℕ) (s : Statement) → elements_in words s ≤ most_elements
+        → EachOf IsSmall (locals_in words f s)
     statement_small f (Empty token) few = tt
     statement_small f (Declares first kind locals) few = locals_small f kind locals few
     statement_small f (Block body) few = all_small f body few
@@ -73,7 +76,8 @@ module _ (words : List Word) where
     statement_small f (Returns token value) few = tt
     statement_small f (Does effect) few = tt
 
-    all_small : (f : ℕ) (ss : Statements) → all_elements_in words ss ≤ most_elements → EachOf IsSmall (all_locals_in words f ss)
+    all_small : (f : ℕ) (ss : Statements) → all_elements_in words ss ≤ most_elements
+        → EachOf IsSmall (all_locals_in words f ss)
     all_small f Nothing few = tt
     all_small f (Then s rest) few = each_joined IsSmall (locals_in words f s) (all_locals_in words f rest) (statement_small f s (omega (arith, few))) (all_small f rest (omega (arith, few)))
 
@@ -81,29 +85,34 @@ module _ (words : List Word) where
   parameters_small f [] = tt
   parameters_small f (p ∷ ps) = (scalar_small p.kind, parameters_small f ps)
 
-  owned_small : (f : ℕ) (xs : List ExternalTree) → all_elements_of words xs ≤ most_elements → EachOf IsSmall (owned_in words f xs)
+  owned_small : (f : ℕ) (xs : List ExternalTree) → all_elements_of words xs ≤ most_elements
+      → EachOf IsSmall (owned_in words f xs)
   owned_small f [] few = tt
   owned_small f (Declaration first o ds ∷ xs) few = owned_small f xs (omega (arith, few))
   owned_small f (Definition first o name params body ∷ xs) few =
       each_joined IsSmall (map (parameter_object f) params) (all_locals_in words f (statements_of body) ++ owned_in words (f + 1) xs) (parameters_small f params)
       (each_joined IsSmall (all_locals_in words f (statements_of body)) (owned_in words (f + 1) xs) (all_small f (statements_of body) (omega (arith, few))) (owned_small (f + 1) xs (omega (arith, few))))
 
-  object_small : (i : Integer) (name : ℕ) (shape : ShapeTree) → elements_of_shape words shape ≤ most_elements → EachOf IsSmall (global_object words i name shape)
+  object_small : (i : Integer) (name : ℕ) (shape : ShapeTree) → elements_of_shape words shape ≤ most_elements
+      → EachOf IsSmall (global_object words i name shape)
   object_small i name (GlobalInteger first) few = (type_small i, tt)
   object_small i name (GlobalArray size firsts) few = (array_small i (count_at words size) few, tt)
   object_small i name (FunctionOf params) few = tt
 
-  declared_small : (i : Integer) (ds : List DeclaratorTree) → elements_of_declarators words ds ≤ most_elements → EachOf IsSmall (globals_declared words i ds)
+  declared_small : (i : Integer) (ds : List DeclaratorTree) → elements_of_declarators words ds ≤ most_elements
+      → EachOf IsSmall (globals_declared words i ds)
   declared_small i [] few = tt
   declared_small i (d ∷ ds) few = each_joined IsSmall (global_object words i d.name d.shape) (globals_declared words i ds) (object_small i d.name d.shape (omega (arith, few))) (declared_small i ds (omega (arith, few)))
 
-  globals_small : (xs : List ExternalTree) → all_elements_of words xs ≤ most_elements → EachOf IsSmall (globals_in words xs)
+  globals_small : (xs : List ExternalTree) → all_elements_of words xs ≤ most_elements
+      → EachOf IsSmall (globals_in words xs)
   globals_small [] few = tt
   globals_small (Declaration first o ds ∷ xs) few =
       each_joined IsSmall (globals_declared words (element_of o) ds) (globals_in words xs) (declared_small (element_of o) ds (omega (arith, few))) (globals_small xs (omega (arith, few)))
   globals_small (Definition first o name params body ∷ xs) few = globals_small xs (omega (arith, few))
 
-  blocks : (IsNamed : List ℕ → Type 0) (file : File) (xs : List ExternalTree) → FunctionsStand IsNamed Shallow words xs → EachOf (λ (f : Function). InStatements Shallow Shallow f.body) (functions_in file xs)
+  blocks : (IsNamed : List ℕ → Type 0) (file : File) (xs : List ExternalTree) → FunctionsStand IsNamed Shallow words xs
+      → EachOf (λ (f : Function). InStatements Shallow Shallow f.body) (functions_in file xs)
   blocks IsNamed file [] stand = tt
   blocks IsNamed file (Declaration first o ds ∷ xs) stand = blocks IsNamed (external_after file (Declaration first o ds)) xs stand.1
   blocks IsNamed file (Definition first o name params body ∷ xs) stand = (stand.0.2, blocks IsNamed (external_after file (Definition first o name params body)) xs stand.1)

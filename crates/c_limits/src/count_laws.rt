@@ -28,7 +28,8 @@ pub fn spelled_units_are_counted()
 /// local and each call of a function that gives something takes a frame; arrays take their elements; and at most
 /// ten operators are nested.
 pub fn statements_count_what_they_declare()
-    ensures { (words : List Word) (n : ℕ) (place : Standing) → Fits words (standing n place).form (IsStanding words place) }
+    ensures { (words : List Word) (n : ℕ) (place : Standing)
+        → Fits words (standing n place).form (IsStanding words place) }
 {}
 
 /// An expression that stands in no other has at most ten nested operators.

@@ -2,7 +2,8 @@
 
 ghost use Rattle.c_limits.specs.Counted.{CountedUnitsHaveSpelledNames, CountedUnitsHaveFewFrames};
 
-/// The names of a counted unit whose checks pass are identifiers, each object has a token of its own, and there are few.
+/// The names of a counted unit whose checks pass are identifiers, each object has a token of its own, and there are
+/// few.
 pub fn counted_units_have_spelled_names()
     ensures { CountedUnitsHaveSpelledNames }
 {}

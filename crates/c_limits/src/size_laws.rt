@@ -17,11 +17,14 @@ ghost use Rattle.c_limits.specs.Objects.{IsSmall};
 /// its functions are no more than a text may define.
 pub fn counted_units_are_small()
     ensures objects { (unit : UnitTree) → IsCounted IsIdentifier unit → EachOf IsSmall (objects_of unit) }
-    ensures blocks { (unit : UnitTree) → IsCounted IsIdentifier unit → EachOf (λ (f : Function). InStatements Shallow Shallow f.body) (functions_of unit) }
+    ensures blocks { (unit : UnitTree) → IsCounted IsIdentifier unit
+        → EachOf (λ (f : Function). InStatements Shallow Shallow f.body) (functions_of unit) }
     ensures functions { (unit : UnitTree) → IsCounted IsIdentifier unit → length (functions_of unit) ≤ most_functions }
 {}
 
-/// The frames of the lowered program have no more bytes in all than a program may have, where they are no more than it may have.
+/// The frames of the lowered program have no more bytes in all than a program may have, where they are no more than it
+/// may have.
 pub fn lowered_programs_have_few_bytes()
-    ensures { (unit : UnitTree) → IsCounted IsIdentifier unit → length (frames_of (lowered unit)) ≤ most_frames → sum_by frame_bytes (frames_of (lowered unit)) ≤ most_bytes_of_frames }
+    ensures { (unit : UnitTree) → IsCounted IsIdentifier unit → length (frames_of (lowered unit)) ≤ most_frames
+        → sum_by frame_bytes (frames_of (lowered unit)) ≤ most_bytes_of_frames }
 {}

@@ -27,7 +27,8 @@ params_known words scope rest (p ∷ ps) =
     ap (λ (known : Known). with_params ps known) (param_known words scope rest p.name p.kind) ∙ params_known words (with_parameter scope p.name p.kind) rest ps
 
 -- the scope after a declaration
-pub declarators_known : (words : List Word) (o : Outcome) (file : File) (ds : List DeclaratorTree) → with_declarators o ds (known_at words file.scope) ≡ known_at words (units.with_declarators o file ds).scope
+pub declarators_known : (words : List Word) (o : Outcome) (file : File) (ds : List DeclaratorTree)
+    → with_declarators o ds (known_at words file.scope) ≡ known_at words (units.with_declarators o file ds).scope
 declarators_known words o file [] = refl
 declarators_known words o file (d ∷ ds) = declarators_known words o (with_global file d.name (global_bound o d.shape)) ds
 
@@ -40,5 +41,6 @@ params_words [] known = refl
 params_words (p ∷ ps) known = params_words ps (with_named p.name p.kind known) ∙ named_words p.name p.kind known
 
 -- the words stay
-pub head_words : (o : Outcome) (name : ℕ) (params : List Parameter) (known : Known) → (with_head o name params known).words ≡ known.words
+pub head_words : (o : Outcome) (name : ℕ) (params : List Parameter) (known : Known)
+    → (with_head o name params known).words ≡ known.words
 head_words o name params known = params_words params (entered (declared_in (record { token = name; bound = function_of o params }) known))

@@ -15,11 +15,13 @@ use Rattle.c_lower.specs.Measured.{HasFewLabels}
 use Rattle.c_lower.specs.Passing.{TextHasFewTokens}
 use Rattle.c_lower.specs.Walk.{HaveFewNumbers}
 
-each_by_number : (P : Function → Type 0) (fs : List Function) → ((f : ℕ) (function : Function) → slice_get fs f ≡ Some function → P function) → EachOf P fs
+each_by_number : (P : Function → Type 0) (fs : List Function)
+    → ((f : ℕ) (function : Function) → slice_get fs f ≡ Some function → P function) → EachOf P fs
 each_by_number P [] all = tt
 each_by_number P (g ∷ fs) all = (all 0 g refl, each_by_number P fs (λ f function at. all (suc f) function at))
 
-pub few_labels : SpelledUnitsHaveFewLabels → (unit : UnitTree) → IsSpelled unit → TextHasFewTokens unit → HasFewLabels unit
+pub few_labels : SpelledUnitsHaveFewLabels → (unit : UnitTree) → IsSpelled unit → TextHasFewTokens unit
+    → HasFewLabels unit
 few_labels few unit spelled short =
     each_by_number (λ (function : Function). labels_in_all function.body < 2 ^ 64) (functions_of unit)
     (λ f function at.
@@ -27,7 +29,8 @@ few_labels few unit spelled short =
     let words : length unit.words < 4611686018427387904 = short in
     omega arith)
 
-pub few_numbers : (program : Program) (file : File) (xs : List ExternalTree) → EachOf (λ (function : Function). labels_in_all function.body < 2 ^ 64) (functions_in file xs)
+pub few_numbers : (program : Program) (file : File) (xs : List ExternalTree)
+    → EachOf (λ (function : Function). labels_in_all function.body < 2 ^ 64) (functions_in file xs)
     → EachOf (HasFewCalls program) (functions_in file xs) → HaveFewNumbers program xs
 few_numbers program file [] labels calls = tt
 few_numbers program file (Declaration first o ds ∷ xs) labels calls = (tt, few_numbers program (external_after file (Declaration first o ds)) xs labels calls)

@@ -17,7 +17,8 @@ use Rattle.c_lower.specs.Passing.{TextHasFewTokens}
 pub few_tokens : (unit : CUnit) → length unit.tokens.items < 4611686018427387904 → TextHasFewTokens (unit_of unit)
 few_tokens unit low = subst (λ (n : ℕ). n < 4611686018427387904) (sym (length-map unit.tokens.items (word_of_span unit.text.items))) low
 
-pub is_lowered : (unit : UnitTree) (root : List ℕ) (program : NumberedProgram) → IsKept program → IsWritable (lowered unit) → Passes (lowered unit) root
+pub is_lowered : (unit : UnitTree) (root : List ℕ) (program : NumberedProgram) → IsKept program
+    → IsWritable (lowered unit) → Passes (lowered unit) root
     → program ≡ numbered (lowered unit) root → IsLowered unit root program
 is_lowered unit root program kept writable passes numbers = record {
   kept = record {

@@ -53,7 +53,8 @@ module _ (unit : UnitTree) (names : HasNames (program_of unit)) where
       let objects = ap (λ (os : List Object). length os) (objects_are unit names) in
       omega (arith, first, second, a, b, objects)
 
-  pub is_measured : CountedUnitsHaveFewFrames → IsCounted IsIdentifier unit → UnitStands unit → HasFewLabels unit → IsMeasured unit names
+  pub is_measured : CountedUnitsHaveFewFrames → IsCounted IsIdentifier unit → UnitStands unit → HasFewLabels unit
+      → IsMeasured unit names
   is_measured frames counted stands labels =
       let count = frames_count in
       let few = frames unit counted stands in

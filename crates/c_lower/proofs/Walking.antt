@@ -21,7 +21,8 @@ use Rattle.c_lower.specs.Heads.{known_at, with_head}
 use Rattle.c_lower.specs.Walk.{funcs_from}
 use Rattle.c_lower.proofs.KnownHeads.{params_known}
 
-pub record IsWalk (words : List Word) (p : Program) (known : Known) (funcs : List Func) (number : ℕ) (xs : List ExternalTree) : Type 0 where
+pub record IsWalk (words : List Word) (p : Program) (known : Known) (funcs : List Func) (number : ℕ)
+    (xs : List ExternalTree) : Type 0 where
   pub file : File
   pub here : known ≡ known_at words file.scope
   pub all : map alf.function_of funcs ++ funcs_from p number file xs ≡ lowered_from p 0 p.functions
@@ -35,7 +36,8 @@ entered_scopes file first o name params body known entered here is =
     ∙ params_known known.words [] ((record { token = name; bound = function_of o params } ∷ file.scope) ∷ []) params
 
 -- once it is left, the file's scope alone is known
-pub left_known : (within after : Known) (words : List Word) (inner outer : Scope) → Stays within after → within ≡ record { words = words; scopes = inner ∷ outer ∷ [] }
+pub left_known : (within after : Known) (words : List Word) (inner outer : Scope) → Stays within after
+    → within ≡ record { words = words; scopes = inner ∷ outer ∷ [] }
     → left after ≡ known_at words outer
 left_known within after words inner outer stays is =
     ap (λ (ws : List Word). record { words = ws; scopes = others after.scopes }) (stays.words ∙ ap (λ (k : Known). k.words) is)

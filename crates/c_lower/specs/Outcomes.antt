@@ -11,8 +11,8 @@ use Rattle.c_unit.specs.Units.{UnitTree}
 use Rattle.lowering_simulation.specs.Correct.{IsLowered}
 use Rattle.lowering_simulation.specs.Lowering.{HasOutcomeOfCells}
 
--- the run from these numbers has the outcome of the unit from the cells that hold the words of these numbers, which no other cells do: a
--- fault where the unit has that fault, and no end where the unit has none
+-- the run from these numbers has the outcome of the unit from the cells that hold the words of these numbers, which no
+-- other cells do: a fault where the unit has that fault, and no end where the unit has none
 abbrev pub HasUnitsOutcomeFrom : UnitTree → List ℕ → NumberedProgram → List InputRow → List ℤ → Type 0
 HasUnitsOutcomeFrom unit root program rows numbers = HasOutcomeOfCells unit root program rows (words_of rows numbers)
 

@@ -3,7 +3,8 @@
 ghost use Rattle.std.specs.Prelude.{◌≡◌, ◌≤◌, ◌<◌, ◌+◌, ◌^◌, ℕ, List, ◌∷◌, ◌++◌, map, length, IfOk, OnOk};
 ghost use Rattle.alf_program.specs.Tree as alf;
 ghost use Rattle.c_unit.specs.Limits.{most_elements};
-ghost use Rattle.c_unit.specs.Tree.{ExternalTree, Declaration, Definition, declarator_of, external_of, statement_of, statements_of};
+ghost use Rattle.c_unit.specs.Tree.{ExternalTree, Declaration, Definition, declarator_of, external_of, statement_of};
+ghost use Rattle.c_unit.specs.Tree.{statements_of};
 ghost use Rattle.c_unit.specs.Units.{unit_of};
 ghost use Rattle.c_rules.specs.Counts.{all_elements_in};
 ghost use Rattle.c_rules.specs.Units.{File, external_after, definitions};
@@ -36,11 +37,20 @@ fn function(
     body: &[Stmt],
 ) -> Result<Func, AllocError>
     requires words { (unit_of code.table.now).words ≡ scopes.old.words }
-    requires elements { all_elements_in (unit_of code.table.now).words (statements_of (map statement_of body.now)) ≤ most_elements }
+    requires elements { all_elements_in (unit_of code.table.now).words (statements_of (map statement_of body.now))
+        ≤ most_elements }
     requires labels { labels_in_all (statements_of (map statement_of body.now)) < 2 ^ 64 }
     requires calls { calls_in_all (program_in code.table.now) (statements_of (map statement_of body.now)) < 2 ^ 64 }
-    ensures func { IfOk result (λ func. (name : ℕ) → alf.function_of func ≡ laws.lowered_function (program_in code.entry.table.now) code.entry.function
-        (record { name = name; result = given; parameters = parameters.now; scopes = scopes.old.scopes; body = statements_of (map statement_of body.now) })) }
+    ensures func { IfOk result
+        (λ func. (name : ℕ)
+        → alf.function_of func ≡ laws.lowered_function (program_in code.entry.table.now) code.entry.function
+        (record {
+          name = name;
+          result = given;
+          parameters = parameters.now;
+          scopes = scopes.old.scopes;
+          body = statements_of (map statement_of body.now);
+        })) }
     ensures stays { OnOk result (Stays scopes.old scopes.new) }
 {
     let name = Name::new(code.alloc, code.table.function_name(code.function))?;
@@ -74,15 +84,23 @@ fn put_function(
     body: &[Stmt],
 ) -> Result<u32, AllocError>
     requires words { (unit_of code.table.now).words ≡ scopes.old.words }
-    requires elements { all_elements_in (unit_of code.table.now).words (statements_of (map statement_of body.now)) ≤ most_elements }
+    requires elements { all_elements_in (unit_of code.table.now).words (statements_of (map statement_of body.now))
+        ≤ most_elements }
     requires room { code.function + 1 < 2 ^ 32 }
     requires labels { labels_in_all (statements_of (map statement_of body.now)) < 2 ^ 64 }
     requires calls { calls_in_all (program_in code.table.now) (statements_of (map statement_of body.now)) < 2 ^ 64 }
-    ensures funcs { IfOk result (λ next. (file : File) (others : List ExternalTree) → scopes.old ≡ known_at scopes.old.words file.scope
-        → map alf.function_of funcs.new.items ++ funcs_from (program_in code.entry.table.now) next (external_after file (Definition first given name parameters.now (map statement_of body.now))) others
-        ≡ map alf.function_of funcs.old.items ++ funcs_from (program_in code.entry.table.now) code.entry.function file (Definition first given name parameters.now (map statement_of body.now) ∷ others)) }
+    ensures funcs { IfOk result
+        (λ next. (file : File) (others : List ExternalTree) → scopes.old ≡ known_at scopes.old.words file.scope
+        → map alf.function_of funcs.new.items
+        ++ funcs_from (program_in code.entry.table.now) next
+        (external_after file (Definition first given name parameters.now (map statement_of body.now))) others
+        ≡ map alf.function_of funcs.old.items
+        ++ funcs_from (program_in code.entry.table.now) code.entry.function file
+        (Definition first given name parameters.now (map statement_of body.now) ∷ others)) }
     ensures known { OnOk result ((file : File) → scopes.old ≡ known_at scopes.old.words file.scope
-        → scopes.new ≡ known_at scopes.old.words (external_after file (Definition first given name parameters.now (map statement_of body.now))).scope) }
+        → scopes.new
+        ≡ known_at scopes.old.words
+        (external_after file (Definition first given name parameters.now (map statement_of body.now))).scope) }
     ensures number { IfOk result (λ next. next ≡ code.entry.function + 1) }
 {
     let _first = first;
@@ -104,12 +122,18 @@ fn put_external(
     requires elements { elements_of (unit_of code.table.now).words (external_of external.now) ≤ most_elements }
     requires room { code.function + 1 < 2 ^ 32 }
     requires few { HasFewNumbers (program_in code.table.now) (external_of external.now) }
-    ensures funcs { IfOk result (λ next. (file : File) (others : List ExternalTree) → scopes.old ≡ known_at scopes.old.words file.scope
-        → map alf.function_of funcs.new.items ++ funcs_from (program_in code.entry.table.now) next (external_after file (external_of external.now)) others
-        ≡ map alf.function_of funcs.old.items ++ funcs_from (program_in code.entry.table.now) code.entry.function file (external_of external.now ∷ others)) }
+    ensures funcs { IfOk result
+        (λ next. (file : File) (others : List ExternalTree) → scopes.old ≡ known_at scopes.old.words file.scope
+        → map alf.function_of funcs.new.items
+        ++ funcs_from (program_in code.entry.table.now) next (external_after file (external_of external.now)) others
+        ≡ map alf.function_of funcs.old.items
+        ++ funcs_from (program_in code.entry.table.now) code.entry.function file (external_of external.now ∷ others)) }
     ensures known { OnOk result ((file : File) → scopes.old ≡ known_at scopes.old.words file.scope
         → scopes.new ≡ known_at scopes.old.words (external_after file (external_of external.now)).scope) }
-    ensures number { IfOk result (λ next. (others : List ExternalTree) → next + length (definitions others) ≡ code.entry.function + length (definitions (external_of external.now ∷ others))) }
+    ensures number { IfOk result
+        (λ next. (others : List ExternalTree)
+        → next + length (definitions others)
+        ≡ code.entry.function + length (definitions (external_of external.now ∷ others))) }
 {
     match external {
         External::Declare(first, given, declarators) => {
@@ -132,7 +156,9 @@ fn put_declaration(
     declarators: &[Declarator],
 ) -> Result<(), AllocError>
     ensures { OnOk result ((file : File) → scopes.old ≡ known_at scopes.old.words file.scope
-        → scopes.new ≡ known_at scopes.old.words (external_after file (Declaration first given (map declarator_of declarators.now))).scope) }
+        → scopes.new
+        ≡ known_at scopes.old.words
+        (external_after file (Declaration first given (map declarator_of declarators.now))).scope) }
 {
     let _first = first;
     declare(alloc, scopes, given, declarators)?;
@@ -148,7 +174,9 @@ pub fn lowered_functions(
     requires unit { table.now ≡ unit.now }
     requires room { HasRoom (unit_of unit.now) }
     requires few { HaveFewNumbers (program_in unit.now) (unit_of unit.now).externals }
-    ensures funcs { IfOk result (λ funcs. map alf.function_of funcs.items ≡ laws.lowered_from (program_in unit.now) 0 (program_in unit.now).functions) }
+    ensures funcs { IfOk result
+        (λ funcs. map alf.function_of funcs.items
+        ≡ laws.lowered_from (program_in unit.now) 0 (program_in unit.now).functions) }
 {
     let mut scopes = Scopes::new(alloc, unit);
     scopes.enter()?;

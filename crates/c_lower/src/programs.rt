@@ -19,8 +19,10 @@ use std::alloc::{AllocError, Global};
 /// which are not made again, so that want of memory is all that can stop it.
 pub fn lower(alloc: Global, program: &CProgram) -> Result<Checked, AllocError>
     ensures passes { OnOk result (Passes (lowered (unit_of program.now.unit)) program.now.root) }
-    ensures numbered { IfOk result (λ checked. seen checked ≡ numbered (lowered (unit_of program.now.unit)) program.now.root) }
-    ensures outcomes { IfOk result (λ checked. HasUnitsOutcomes (unit_of program.now.unit) program.now.root (seen checked)) }
+    ensures numbered { IfOk result
+        (λ checked. seen checked ≡ numbered (lowered (unit_of program.now.unit)) program.now.root) }
+    ensures outcomes { IfOk result
+        (λ checked. HasUnitsOutcomes (unit_of program.now.unit) program.now.root (seen checked)) }
 {
     let text = lower_text(alloc, program)?;
     let checked = number(alloc, &text, program.root())?;

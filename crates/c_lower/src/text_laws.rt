@@ -20,8 +20,10 @@ use lowering_checks::measured_programs_pass;
 /// The lowered program of a unit that some text spells and that the checks pass can be written, and passes the
 /// checks of ALF with the same root, where no function has 2 to 64 labels or more.
 pub fn lowered_programs_pass()
-    ensures written { (unit : UnitTree) (root ranks : List ℕ) → IsProgram unit root ranks → IsSpelled unit → HasFewLabels unit → IsWritable (lowered unit) }
-    ensures passes { (unit : UnitTree) (root ranks : List ℕ) → IsProgram unit root ranks → IsSpelled unit → HasFewLabels unit → Passes (lowered unit) root }
+    ensures written { (unit : UnitTree) (root ranks : List ℕ) → IsProgram unit root ranks → IsSpelled unit
+        → HasFewLabels unit → IsWritable (lowered unit) }
+    ensures passes { (unit : UnitTree) (root ranks : List ℕ) → IsProgram unit root ranks → IsSpelled unit
+        → HasFewLabels unit → Passes (lowered unit) root }
 {
     spelled_units_are_counted();
     counted_units_have_spelled_names();

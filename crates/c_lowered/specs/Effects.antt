@@ -72,7 +72,8 @@ calls_in_value program (OfExpression e) = 0
 calls_in_value program (OfCall call) = calls_in_call program call
 
 -- a call comes first, and then what is done with the value
-abbrev pub value_items : Within → List Scope → ValueTree → ℕ → (NamedExpression → BodyItem) → List BodyItem → List BodyItem
+abbrev pub value_items : Within → List Scope → ValueTree → ℕ → (NamedExpression → BodyItem) → List BodyItem
+    → List BodyItem
 value_items within scopes (OfExpression e) n made rest = made (value_of within.program scopes e) ∷ rest
 value_items within scopes (OfCall call) n made rest = call_items within scopes call n (made (call_value within call n) ∷ rest)
 

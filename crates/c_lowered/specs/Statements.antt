@@ -7,8 +7,8 @@
 --                            and `rest` after them
 --   all_items_of within scopes ss labels calls around rest   those of statements in a row
 --   body_items within scopes ss cases labels calls around rest   those of the body of a switch, whose cases have labels from `cases` on
--- Labels are numbered as they are allocated: those of a statement before those of its parts. Calls are numbered in the order of the text: so in
--- a `for` those of the last part come before those of the body.
+-- Labels are numbered as they are allocated: those of a statement before those of its parts. Calls are numbered in the
+-- order of the text: so in a `for` those of the last part come before those of the body.
 use Rattle.std.specs.Prelude.{ℕ, suc, ◌+◌, List, [], ◌∷◌, Option, Some, None}
 use Rattle.std.specs.Option.{option_map_or}
 use Rattle.alf_program.specs.declared.program.Num.{Num}
@@ -163,7 +163,8 @@ abbrev pub Body : Type 0
 Body = ℕ → ℕ → Around → List BodyItem → List BodyItem
 
 -- a `for` without its first part
-abbrev pub loop_items : Within → List Scope → Option Expression → Option EffectTree → Body → ℕ → ℕ → List BodyItem → List BodyItem
+abbrev pub loop_items : Within → List Scope → Option Expression → Option EffectTree → Body → ℕ → ℕ → List BodyItem
+    → List BodyItem
 loop_items within scopes condition last body labels calls rest =
     label_item within labels ∷ condition_if within scopes condition (4 + labels) (1 + labels) (3 + labels)
     (label_item within (1 + labels) ∷ body (4 + labels + labels_if condition) (calls + calls_if within.program last)

@@ -94,7 +94,8 @@ the_guard =
     ∷ return (both SDiv (int 10) (load 32 (codes "d")))
     ∷ return (int 0) ∷ []) ∷ [])
 
--- int g; int sum(int n) { int s = 0; int i; for (i = 1; i <= n; i++) s += i; return s; } int main(void) { g = sum(3); return g; }
+-- int g; int sum(int n) { int s = 0; int i; for (i = 1; i <= n; i++) s += i; return s; } int main(void) { g = sum(3);
+-- return g; }
 abbrev pub the_sum : WholeProgram
 the_sum =
     program (codes "g" ∷ []) (frame (codes "g") 32 ∷ []) (holds (codes "g") 0 (record { signed = true; size = 32; bits = 0 }) ∷ [])
@@ -211,10 +212,9 @@ with_names = record {
       ∷ [];
 }
 
--- unsigned char b[2] = { 1, -1 };
--- void put(short *p, unsigned i) { int x = 0; while (i || !(x < 3)) { unsigned x = 2u; if (x > 1u) continue; else p[i] = (char)x; }
--- for (;;) break; return; }
--- char main(void) { short s[1]; put(&s[0], 2); ; return b[1] | 1; }
+-- unsigned char b[2] = { 1, -1 }; void put(short *p, unsigned i) { int x = 0; while (i || !(x < 3)) { unsigned x = 2u;
+-- if (x > 1u) continue; else p[i] = (char)x; } for (;;) break; return; } char main(void) { short s[1]; put(&s[0], 2); ;
+-- return b[1] | 1; }
 abbrev pub the_names : WholeProgram
 the_names =
     program [] (frame (codes "b") 16 ∷ [])

@@ -3,7 +3,8 @@
 ghost use Rattle.std.specs.Prelude.{◌≡◌};
 ghost use Rattle.c_meaning.specs.Worked.{with_a_sum, with_a_guard, with_a_switch, with_a_pointer};
 ghost use Rattle.c_lowered.specs.Programs.{lowered};
-ghost use Rattle.c_lowered.specs.Worked.{the_sum, the_guard, the_switch, the_pointer, with_names, the_names, with_values, the_values};
+ghost use Rattle.c_lowered.specs.Worked.{the_sum, the_guard, the_switch, the_pointer, with_names, the_names};
+ghost use Rattle.c_lowered.specs.Worked.{with_values, the_values};
 
 /// A `for` has its test before its body, and what is done after each turn before the jump back; a call has a
 /// frame for its result.

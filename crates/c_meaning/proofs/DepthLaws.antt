@@ -38,7 +38,8 @@ rows_by_functions words names file (Definition first o name params body ∷ xs) 
 rows_by_functions words names file (Definition first o name params body ∷ xs) (suc f) =
     rows_by_functions words names (external_after file (Definition first o name params body)) xs f
 
-as_many_rows : (words : List Word) (names : List ℕ) (file : File) (xs : List ExternalTree) → length (rows_of words names xs) ≡ length (functions_in file xs)
+as_many_rows : (words : List Word) (names : List ℕ) (file : File) (xs : List ExternalTree)
+    → length (rows_of words names xs) ≡ length (functions_in file xs)
 as_many_rows words names file [] = refl
 as_many_rows words names file (Declaration first o ds ∷ xs) = as_many_rows words names (external_after file (Declaration first o ds)) xs
 as_many_rows words names file (Definition first o name params body ∷ xs) =
@@ -69,7 +70,8 @@ first_number : (G : ℕ → Type 0) (x : Option ℕ) (numbers : List ℕ) (k cou
 first_number G None numbers k count is past all = subst G (sym is) past
 first_number G (Some n) numbers k count is past all = subst G (sym is) (all n (first_member n numbers))
 
-other_numbers : (G : ℕ → Type 0) (x : Option ℕ) (numbers : List ℕ) → ((g : ℕ) → Contains (with_number x numbers) g → G g) → (g : ℕ) → Contains numbers g → G g
+other_numbers : (G : ℕ → Type 0) (x : Option ℕ) (numbers : List ℕ)
+    → ((g : ℕ) → Contains (with_number x numbers) g → G g) → (g : ℕ) → Contains numbers g → G g
 other_numbers G None numbers all g c = all g c
 other_numbers G (Some n) numbers all g c = all g (further_member n numbers g c)
 
@@ -93,7 +95,8 @@ module _ (unit : UnitTree) (n : ℕ) where
   abbrev done : ℕ → Callees
   done depth = function_done program n depth
 
-  past_kept : (c d : Callees) (f : ℕ) → count ≤ f → (h : History) → Kept ⊥ (body_done program n c f h) (body_done program n d f h)
+  past_kept : (c d : Callees) (f : ℕ) → count ≤ f → (h : History)
+      → Kept ⊥ (body_done program n c f h) (body_done program n d f h)
   past_kept c d f past h =
       bodies_kept ⊥ program n n (equal_turns n) c d f
       (subst (λ (x : Option Function). EachCalled (CallKept ⊥ program c d) (called_in (option_map_or (λ function. function) x no_function).body))
@@ -115,7 +118,8 @@ module _ (unit : UnitTree) (n : ℕ) where
   )
 
   module _ (ranks : List ℕ) (ranked : IsRanked (calls_of unit) ranks) where
-    falls : (f g : ℕ) → Contains (numbers_at unit.words (definitions unit.externals) (called_in (function_at program f).body)) g
+    falls : (f g : ℕ)
+        → Contains (numbers_at unit.words (definitions unit.externals) (called_in (function_at program f).body)) g
         → slice_index ranks g < slice_index ranks f
     falls f g calls =
         ranked.falls f g (subst (λ (row : List ℕ). Contains row g)
@@ -138,14 +142,16 @@ module _ (unit : UnitTree) (n : ℕ) where
         let many : length (calls_of unit) ≡ count = as_many_rows unit.words (definitions unit.externals) (record { scope = []; made = [] }) unit.externals in
         subst (λ (m : ℕ). slice_index ranks f < m) many (ranked.within f (subst (λ (m : ℕ). f < m) (sym many) low))
 
-    deep_enough : (d e f : ℕ) → count ≤ d → count ≤ e → (h : History) → Kept ⊥ (body_done program n (done d) f h) (body_done program n (done e) f h)
+    deep_enough : (d e f : ℕ) → count ≤ d → count ≤ e → (h : History)
+        → Kept ⊥ (body_done program n (done d) f h) (body_done program n (done e) f h)
     deep_enough d e f low low' h =
         elim (cases_lt f count) [
           | inl within ↦ (let less : slice_index ranks f < count = low_rank f within in same_depth d e f (omega arith) (omega arith) h)
           | inr past ↦ past_kept (done d) (done e) f past h
         ]
 
-pub ending_kept_within : (unit : UnitTree) (ranks : List ℕ) → IsRanked (calls_of unit) ranks → (root n depth : ℕ) (cells : List Cell) → length (functions_of unit) ≤ depth
+pub ending_kept_within : (unit : UnitTree) (ranks : List ℕ) → IsRanked (calls_of unit) ranks
+    → (root n depth : ℕ) (cells : List Cell) → length (functions_of unit) ≤ depth
     → ending_within unit root n depth cells ≡ ending unit root n cells
 ending_kept_within unit ranks ranked root n depth cells deep =
     kept_equal (deep_enough unit n ranks ranked depth (length (functions_of unit) + n) root deep (omega arith) (start_history unit root cells))

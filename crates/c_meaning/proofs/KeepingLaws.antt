@@ -52,11 +52,13 @@ same_then (Returned v h) f g kept = same
 same_then (Faulted fault) f g kept = same
 same_then UsedUp f g kept = same
 
-then_kept : {P : Type 0} → {a b : Ending} (f g : History → Ending) → Kept P a b → AllKept P f g → Kept P (then_do a f) (then_do b g)
+then_kept : {P : Type 0} → {a b : Ending} (f g : History → Ending) → Kept P a b → AllKept P f g
+    → Kept P (then_do a f) (then_do b g)
 then_kept f g (unknown allowed) kept = unknown allowed
 then_kept f g (same {e = e}) kept = same_then e f g kept
 
-same_body : {P : Type 0} → (e : Ending) (f g : History → Ending) → AllKept P f g → Kept P (after_body e f) (after_body e g)
+same_body : {P : Type 0} → (e : Ending) (f g : History → Ending) → AllKept P f g
+    → Kept P (after_body e f) (after_body e g)
 same_body (Normal h) f g kept = kept h
 same_body (Broke h) f g kept = same
 same_body (Continued h) f g kept = kept h
@@ -64,7 +66,8 @@ same_body (Returned v h) f g kept = same
 same_body (Faulted fault) f g kept = same
 same_body UsedUp f g kept = same
 
-body_kept : {P : Type 0} → {a b : Ending} (f g : History → Ending) → Kept P a b → AllKept P f g → Kept P (after_body a f) (after_body b g)
+body_kept : {P : Type 0} → {a b : Ending} (f g : History → Ending) → Kept P a b → AllKept P f g
+    → Kept P (after_body a f) (after_body b g)
 body_kept f g (unknown allowed) kept = unknown allowed
 body_kept f g (same {e = e}) kept = same_body e f g kept
 
@@ -75,7 +78,8 @@ switch_kept same = same
 abbrev AllGiven : Type 0 → (f g : Option Value → History → Ending) → Type 0
 AllGiven P f g = (v : Option Value) (h : History) → Kept P (f v h) (g v h)
 
-same_call : {P : Type 0} → (e : Ending) (f g : Option Value → History → Ending) → AllGiven P f g → Kept P (after_call e f) (after_call e g)
+same_call : {P : Type 0} → (e : Ending) (f g : Option Value → History → Ending) → AllGiven P f g
+    → Kept P (after_call e f) (after_call e g)
 same_call (Normal h) f g kept = kept None h
 same_call (Broke h) f g kept = kept None h
 same_call (Continued h) f g kept = kept None h
@@ -83,21 +87,25 @@ same_call (Returned v h) f g kept = kept v h
 same_call (Faulted fault) f g kept = same
 same_call UsedUp f g kept = same
 
-call_kept : {P : Type 0} → {a b : Ending} (f g : Option Value → History → Ending) → Kept P a b → AllGiven P f g → Kept P (after_call a f) (after_call b g)
+call_kept : {P : Type 0} → {a b : Ending} (f g : Option Value → History → Ending) → Kept P a b → AllGiven P f g
+    → Kept P (after_call a f) (after_call b g)
 call_kept f g (unknown allowed) kept = unknown allowed
 call_kept f g (same {e = e}) kept = same_call e f g kept
 
-truth_kept : {P : Type 0} → (r : Result Bool RunFault) (a b c d : Ending) → Kept P a b → Kept P c d → Kept P (by_truth r a c) (by_truth r b d)
+truth_kept : {P : Type 0} → (r : Result Bool RunFault) (a b c d : Ending) → Kept P a b → Kept P c d
+    → Kept P (by_truth r a c) (by_truth r b d)
 truth_kept (Ok true) a b c d held failed = held
 truth_kept (Ok false) a b c d held failed = failed
 truth_kept (Err fault) a b c d held failed = same
 
-values_kept : {P : Type 0} → (r : Result (List Value) RunFault) (f g : List Value → Ending) → ((vs : List Value) → Kept P (f vs) (g vs))
+values_kept : {P : Type 0} → (r : Result (List Value) RunFault) (f g : List Value → Ending)
+    → ((vs : List Value) → Kept P (f vs) (g vs))
     → Kept P (with_values r f) (with_values r g)
 values_kept (Ok vs) f g kept = kept vs
 values_kept (Err fault) f g kept = same
 
-word_kept : {P : Type 0} → (r : Valued) (f g : ℕ → Ending) → ((w : ℕ) → Kept P (f w) (g w)) → Kept P (with_word r f) (with_word r g)
+word_kept : {P : Type 0} → (r : Valued) (f g : ℕ → Ending) → ((w : ℕ) → Kept P (f w) (g w))
+    → Kept P (with_word r f) (with_word r g)
 word_kept (Ok (values.Int size w)) f g kept = kept w
 word_kept (Ok (values.Ptr object offset)) f g kept = same
 word_kept (Err fault) f g kept = same
@@ -108,7 +116,8 @@ left_kept o f same = same
 
 -- ---- loops
 
-turns_kept : {P : Type 0} → {n m : ℕ} → AtMost P n m → (test : History → Result Bool RunFault) (body body' last last' : History → Ending)
+turns_kept : {P : Type 0} → {n m : ℕ} → AtMost P n m
+    → (test : History → Result Bool RunFault) (body body' last last' : History → Ending)
     → AllKept P body body' → AllKept P last last' → (h : History) → Kept P (turns n test body last h) (turns m test body' last' h)
 turns_kept both_zero test body body' last last' kept kept' h = same
 turns_kept (at_zero {m = zero} allowed) test body body' last last' kept kept' h = same
@@ -121,7 +130,8 @@ turns_kept (at_next {n = n} {m = m} le) test body body' last last' kept kept' h 
     (λ t. then_kept (turns n test body last) (turns m test body' last') (kept' t) (turns_kept le test body body' last last' kept kept')))
     same
 
-rounds_kept : {P : Type 0} → {n m : ℕ} → AtMost P n m → (body body' : History → Ending) (test : History → Result Bool RunFault) → AllKept P body body'
+rounds_kept : {P : Type 0} → {n m : ℕ} → AtMost P n m
+    → (body body' : History → Ending) (test : History → Result Bool RunFault) → AllKept P body body'
     → (h : History) → Kept P (rounds n body test h) (rounds m body' test h)
 rounds_kept both_zero body body' test kept h = same
 rounds_kept (at_zero allowed) body body' test kept h = unknown allowed
@@ -135,11 +145,13 @@ data KeptIf (P : Type 0) : Option Ending → Option Ending → Type 0 where
   neither : KeptIf P None None
   either : {e f : Ending} → Kept P e f → KeptIf P (Some e) (Some f)
 
-chosen_kept : {P : Type 0} → (test : Bool) {a b c d : Option Ending} → KeptIf P a b → KeptIf P c d → KeptIf P (if test then a else c) (if test then b else d)
+chosen_kept : {P : Type 0} → (test : Bool) {a b c d : Option Ending} → KeptIf P a b → KeptIf P c d
+    → KeptIf P (if test then a else c) (if test then b else d)
 chosen_kept true held failed = held
 chosen_kept false held failed = failed
 
-labels_kept : {P : Type 0} → {a b c d : Option Ending} (h : History) → KeptIf P a b → KeptIf P c d → Kept P (by_labels a c h) (by_labels b d h)
+labels_kept : {P : Type 0} → {a b c d : Option Ending} (h : History) → KeptIf P a b → KeptIf P c d
+    → Kept P (by_labels a c h) (by_labels b d h)
 labels_kept h (either kept) others = kept
 labels_kept h neither (either kept) = kept
 labels_kept h neither neither = same
@@ -194,32 +206,37 @@ module _ (P : Type 0) (program : Program) (o : Outcome) (n m : ℕ) (le : AtMost
       (λ vs. call_kept f g (kept vs h) go)
 
   -- what goes on is the same on both sides
-  valued_kept : (scopes : List Scope) (value : ValueTree) → Called (calls_in_value value) → (h : History) (go : Valued → History → Ending)
+  valued_kept : (scopes : List Scope) (value : ValueTree) → Called (calls_in_value value)
+      → (h : History) (go : Valued → History → Ending)
       → Kept P (valued few scopes value h go) (valued more scopes value h go)
   valued_kept scopes (OfExpression e) each h go = same
   valued_kept scopes (OfCall call) each h go =
       called_kept scopes call each.0 h (λ v t. go (given (function_at program (callee program call)).result v) t)
       (λ v t. go (given (function_at program (callee program call)).result v) t) (λ v t. same)
 
-  effect_kept : (scopes : List Scope) (e : EffectTree) → Called (calls_in_effect e) → (h : History) → Kept P (effect_done few scopes e h) (effect_done more scopes e h)
+  effect_kept : (scopes : List Scope) (e : EffectTree) → Called (calls_in_effect e) → (h : History)
+      → Kept P (effect_done few scopes e h) (effect_done more scopes e h)
   effect_kept scopes (Assigns to token value) each h =
       valued_kept scopes value each h (λ v t. assigned program (kind_of program.words scopes to) t (address_of program scopes t to) v)
   effect_kept scopes (Updates to op token e) each h = same
   effect_kept scopes (Steps operand up token) each h = same
   effect_kept scopes (Calls call) each h = called_kept scopes call each.0 h (λ v t. Normal t) (λ v t. Normal t) (λ v t. same)
 
-  first_kept : (scopes : List Scope) (t : Scalar) (object : ℕ) (first : Option ValueTree) → Called (calls_if_valued first) → (h : History)
+  first_kept : (scopes : List Scope) (t : Scalar) (object : ℕ) (first : Option ValueTree)
+      → Called (calls_if_valued first) → (h : History)
       → Kept P (first_value few scopes t object first h) (first_value more scopes t object first h)
   first_kept scopes t object None each h = same
   first_kept scopes t object (Some value) each h = valued_kept scopes value each h (λ v u. assigned program t u (Ok (values.Ptr object 0)) v)
 
-  shape_kept : (scopes : List Scope) (kind : Integer) (object : ℕ) (shape : LocalShapeTree) → Called (calls_in_shape shape) → (h : History)
+  shape_kept : (scopes : List Scope) (kind : Integer) (object : ℕ) (shape : LocalShapeTree)
+      → Called (calls_in_shape shape) → (h : History)
       → Kept P (shape_done few scopes kind object shape h) (shape_done more scopes kind object shape h)
   shape_kept scopes kind object (LocalInteger first) each h = first_kept scopes (scalars.Integer kind) object first each h
   shape_kept scopes kind object (LocalPointer first) each h = first_kept scopes (scalars.Pointer kind) object first each h
   shape_kept scopes kind object (LocalArray size firsts) each h = same
 
-  locals_kept : (kind : Integer) (scopes : List Scope) (locals : List LocalTree) → Called (calls_in_locals locals) → (h : History)
+  locals_kept : (kind : Integer) (scopes : List Scope) (locals : List LocalTree) → Called (calls_in_locals locals)
+      → (h : History)
       → Kept P (locals_done few kind scopes locals h) (locals_done more kind scopes locals h)
   locals_kept kind scopes [] each h = same
   locals_kept kind scopes (local ∷ locals) each h =
@@ -294,7 +311,8 @@ module _ (P : Type 0) (program : Program) (o : Outcome) (n m : ℕ) (le : AtMost
         (statement_kept scopes s (left_part (calls_in s) (called_in rest) each) h)
         (statements_kept (scopes_after scopes s) rest (right_part (calls_in s) (called_in rest) each))
 
-    label_kept : (scopes : List Scope) (is_here : Statement → Bool) (ss : Statements) → Called (called_in ss) → (h : History)
+    label_kept : (scopes : List Scope) (is_here : Statement → Bool) (ss : Statements) → Called (called_in ss)
+        → (h : History)
         → KeptIf P (from_label few scopes is_here ss h) (from_label more scopes is_here ss h)
     label_kept scopes is_here Nothing each h = neither
     label_kept scopes is_here (Then s rest) each h =

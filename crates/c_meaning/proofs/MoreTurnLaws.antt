@@ -32,7 +32,8 @@ functions_kept program n m le (suc depth) (suc further) (at_next deeper) f vs h 
     (λ token. functions_kept program n m le depth further deeper (number_at_token program token)) (called_in (function_at program f).body))
     (entered program f vs h)
 
-pub ending_kept : (unit : UnitTree) (root n m : ℕ) (cells : List Cell) → n ≤ m → Kept ⊤ (ending unit root n cells) (ending unit root m cells)
+pub ending_kept : (unit : UnitTree) (root n m : ℕ) (cells : List Cell) → n ≤ m
+    → Kept ⊤ (ending unit root n cells) (ending unit root m cells)
 ending_kept unit root n m cells le =
     let program : Program = program_of unit in
     let count : ℕ = length program.functions in
@@ -44,10 +45,12 @@ ending_kept unit root n m cells le =
     (called_in (function_at program root).body))
     (start_history unit root cells)
 
-kept_outcome : (unit : UnitTree) {a b : Ending} → Kept ⊤ a b → outcome_of unit a ≢ Unfinished → outcome_of unit b ≡ outcome_of unit a
+kept_outcome : (unit : UnitTree) {a b : Ending} → Kept ⊤ a b → outcome_of unit a ≢ Unfinished
+    → outcome_of unit b ≡ outcome_of unit a
 kept_outcome unit (unknown allowed) known = absurd (known refl)
 kept_outcome unit same known = refl
 
-pub outcome_kept : (unit : UnitTree) (root : List ℕ) (n m : ℕ) (cells : List Cell) → n ≤ m → outcome unit root n cells ≢ Unfinished
+pub outcome_kept : (unit : UnitTree) (root : List ℕ) (n m : ℕ) (cells : List Cell) → n ≤ m
+    → outcome unit root n cells ≢ Unfinished
     → outcome unit root m cells ≡ outcome unit root n cells
 outcome_kept unit root n m cells le = kept_outcome unit (ending_kept unit (root_of unit root) n m cells le)

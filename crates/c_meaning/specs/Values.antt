@@ -1,5 +1,6 @@
--- Values and operators of C. A value of an expression is a word of 32 bits or a pointer to an object, with an offset in bytes.
--- Where an operand is a pointer against its type, or a word where a pointer is wanted, an operator follows the rules of runs.
+-- Values and operators of C. A value of an expression is a word of 32 bits or a pointer to an object, with an offset in
+-- bytes. Where an operand is a pointer against its type, or a word where a pointer is wanted, an operator follows the
+-- rules of runs.
 --   bits_of_type i, bytes_of_type i, is_signed i   the size of an integer type, in bits and in bytes, and whether it has a sign
 --   reading i w               the number that a word stands for in a type
 --   Valued                    a value or the fault of an evaluation

@@ -5,7 +5,9 @@ ghost use Rattle.alf_ops.specs.declared.history.Value.TheVariants.{Int, Ptr};
 ghost use Rattle.alf_ops.specs.declared.history.RunFault.TheVariants as faults;
 ghost use Rattle.c_unit.specs.declared.types.Integer.TheVariants as types;
 ghost use Rattle.c_unit.specs.declared.types.Scalar.TheVariants as scalars;
-ghost use Rattle.c_unit.specs.declared.expression.Binary.TheVariants.{Divide, Remainder, Add, Subtract, ShiftLeft, ShiftRight, Less, Greater, AtMost, AtLeast, Equal, Unequal, And, Xor, Or, Both, Either};
+ghost use Rattle.c_unit.specs.declared.expression.Binary.TheVariants.{Divide, Remainder, Add, Subtract, ShiftLeft};
+ghost use Rattle.c_unit.specs.declared.expression.Binary.TheVariants.{ShiftRight, Less, Greater, AtMost, AtLeast};
+ghost use Rattle.c_unit.specs.declared.expression.Binary.TheVariants.{Equal, Unequal, And, Xor, Or, Both, Either};
 ghost use Rattle.c_meaning.specs.Values.{negation, complement, opposite, cast_to, binary_value};
 ghost use Rattle.c_meaning.specs.WorkedOperators.{is, minus, of_ints, of_unsigned, into, of_pointers, moved, faulty};
 
@@ -31,7 +33,8 @@ pub fn conditions_are_zero_or_one()
     ensures first { of_ints Both 0 7 ≡ is 0 }
     ensures decided { binary_value Either (scalars.Integer types.Int) (scalars.Integer types.Int) (is 7) faulty ≡ is 1 }
     ensures refuted { binary_value Both (scalars.Integer types.Int) (scalars.Integer types.Int) (is 0) faulty ≡ is 0 }
-    ensures faulted { binary_value Either (scalars.Integer types.Int) (scalars.Integer types.Int) (is 0) faulty ≡ Err faults.Divide }
+    ensures faulted { binary_value Either (scalars.Integer types.Int) (scalars.Integer types.Int) (is 0) faulty
+        ≡ Err faults.Divide }
 {}
 
 /// A shift to the left doubles and cuts; one to the right halves, keeps the sign of an `int`, and

@@ -4,7 +4,9 @@ ghost use Rattle.std.specs.Prelude.{◌≡◌, Some, [], ◌∷◌};
 ghost use Rattle.alf_ops.specs.declared.history.Value.TheVariants.{Int};
 ghost use Rattle.alf_ops.specs.declared.history.RunFault.TheVariants.{Divide, Uninit, Bounds, Kind};
 ghost use Rattle.c_meaning.specs.Programs.{Ended, Stopped, Unfinished, outcome};
-ghost use Rattle.c_meaning.specs.Worked.{main, in_first_object, with_a_sum, with_a_guard, with_bytes, with_a_switch, without_an_end, with_a_pointer, with_a_narrow_result, with_a_narrow_root, with_a_pointer_parameter, without_a_value, past_an_array};
+ghost use Rattle.c_meaning.specs.Worked.{main, in_first_object, with_a_sum, with_a_guard, with_bytes, with_a_switch};
+ghost use Rattle.c_meaning.specs.Worked.{without_an_end, with_a_pointer, with_a_narrow_result, with_a_narrow_root};
+ghost use Rattle.c_meaning.specs.Worked.{with_a_pointer_parameter, without_a_value, past_an_array};
 
 /// A loop of three turns in a function gives its sum, which a global holds in the end; with two turns it is
 /// not known.

@@ -21,11 +21,13 @@ unfolding gives_value
 declared text names d = latest text false names d
 
 -- what is said of a name, where one name is entered or not
-said_if : (here : Bool) (gives : Bool) (before : Option Bool) → unwrap_or (if here then Some gives else before) false ≡ (if here then gives else unwrap_or before false)
+said_if : (here : Bool) (gives : Bool) (before : Option Bool)
+    → unwrap_or (if here then Some gives else before) false ≡ (if here then gives else unwrap_or before false)
 said_if true gives before = refl
 said_if false gives before = refl
 
-pub stays_table : {S : Type 0} (list : List Known) (k : Known) (table after : IndexMap (Bor (List ℕ)) Bool S) → IsTableOf (map known_of list) table
+pub stays_table : {S : Type 0} (list : List Known) (k : Known) (table after : IndexMap (Bor (List ℕ)) Bool S)
+    → IsTableOf (map known_of list) table
     → ((name : List ℕ) → found after name ≡ (if bytes_eq k.name.now name then Some k.gives else found table name))
     → IsTableOf (map known_of (list ++ k ∷ [])) after
 stays_table list k table after holds entered = λ name.

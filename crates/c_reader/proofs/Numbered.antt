@@ -23,7 +23,8 @@ cut_of text n t = record { symbol = symbol_of t.kind t.text; number = n; span = 
 abbrev pub seen_of : ℕ → Lexeme → Seen
 seen_of n t = record { symbol = symbol_of t.kind t.text; number = n; text = t.text }
 
-pub cut_more : (text : List ℕ) (done : List CutToken) (n : ℕ) (t : Lexeme) (rest : List Lexeme) → Cut text done n (t ∷ rest) → Cut text (done ++ cut_of text n t ∷ []) (n + 1) rest
+pub cut_more : (text : List ℕ) (done : List CutToken) (n : ℕ) (t : Lexeme) (rest : List Lexeme)
+    → Cut text done n (t ∷ rest) → Cut text (done ++ cut_of text n t ∷ []) (n + 1) rest
 cut_more text done n t rest c =
     let here = All-head (StandsIn text) t rest c.stand in
     let token : seen_in text (cut_of text n t) ≡ seen_of n t = rw here.there refl in

@@ -4,7 +4,8 @@ ghost use Rattle.std.specs.Prelude.{◌≡◌, None, Some, IfOk, IfErr, map};
 ghost use Rattle.std.specs.Str.{bytes_eq};
 ghost use Rattle.grammar.specs.Form.{first, first_of, after};
 ghost use Rattle.c_grammar.specs.Symbols.{starts_type, is_specifier, is_step, is_label, is_name};
-ghost use Rattle.c_grammar.specs.Tokens.{is_first, misfit_next, mark, name, constant, at_text, at_symbol, next_number, before, before_either};
+ghost use Rattle.c_grammar.specs.Tokens.{is_first, misfit_next, mark, name, constant, at_text, at_symbol, next_number};
+ghost use Rattle.c_grammar.specs.Tokens.{before, before_either};
 ghost use Rattle.c_grammar.specs.Expressions.{some_token};
 ghost use Rattle.c_reader.specs.declared.fault.Departure.TheVariants.{Syntax};
 ghost use Rattle.c_reader.specs.Reading.{seen, seen_in, position, fault_of, Reads};
@@ -41,7 +42,8 @@ fn taken<'a>(text: &'a [u8], token: CutToken) -> Token<'a>
 
 /// Whether the first of the tokens has this text.
 pub fn begins_with(whole: &[u8], tokens: &[CutToken], text: &[u8]) -> bool
-    ensures { result ≡ is_first (λ token. bytes_eq token.text text.now) (first_of (map (seen_in whole.now) tokens.now)) }
+    ensures { result
+        ≡ is_first (λ token. bytes_eq token.text text.now) (first_of (map (seen_in whole.now) tokens.now)) }
 {
     match tokens.first() {
         Some(token) => range(whole, token.span) == text,

@@ -37,7 +37,8 @@ fn is_last(number: u32) -> bool
 /// 32 bits number wants memory.
 pub fn cut(alloc: Global, text: &[u8]) -> Result<Vec<CutToken>, AllocError>
     ensures tokens { IfOk result (λ tokens. map (seen_in text.now) tokens.items ≡ numbered 0 (tokens_of text.now)) }
-    ensures words { IfOk result (λ tokens. map (word_in text.now) tokens.items ≡ map (word_of text.now) (tokens_of text.now)) }
+    ensures words { IfOk result
+        (λ tokens. map (word_in text.now) tokens.items ≡ map (word_of text.now) (tokens_of text.now)) }
 {
     tokens_stand_in_their_texts();
     let mut cursor = Cursor::new(text);

@@ -3,7 +3,11 @@
 ghost use Rattle.std.specs.Prelude.{◌≡◌, ◌∷◌, IfOk};
 ghost use Rattle.std.specs.Option.{option_map};
 ghost use Rattle.grammar.specs.Rule.{maybe, many};
-ghost use Rattle.c_grammar.specs.Types.{specifier, type_told, type_of, integer_told, integer_type, const_word, star, pointer_to, pointer_stars, minus_sign, minus_constant, plain_constant, signed_constant, assign_mark, comma_mark, after_constant, at_further, element, further_element, at_list_comma, close_brace, elements, element_list, at_assign, left_bracket, right_bracket, array_size, after_array, array};
+ghost use Rattle.c_grammar.specs.Types.{specifier, type_told, type_of, integer_told, integer_type, const_word, star};
+ghost use Rattle.c_grammar.specs.Types.{pointer_to, pointer_stars, minus_sign, minus_constant, plain_constant};
+ghost use Rattle.c_grammar.specs.Types.{signed_constant, assign_mark, comma_mark, after_constant, at_further, element};
+ghost use Rattle.c_grammar.specs.Types.{further_element, at_list_comma, close_brace, elements, element_list, at_assign};
+ghost use Rattle.c_grammar.specs.Types.{left_bracket, right_bracket, array_size, after_array, array};
 ghost use Rattle.c_reader.specs.Reading.{position, Reads};
 
 use crate::fault::{Departure, misfit};

@@ -49,7 +49,8 @@ HasNoCycle unit = (f : ℕ) → OnCycle (calls_of unit) f → ⊥
 
 pub data Refuses (unit : UnitTree) (root : List ℕ) : Refusal → Type 0 where
   by_text : {r : Refusal} → first_refusal unit ≡ Some r → Refuses unit root r
-  by_cycle : {path : List ℕ} → faults_in unit ≡ [] → IsFirstCycle (calls_of unit) path → Refuses unit root (Recursion (names_of unit path))
+  by_cycle : {path : List ℕ} → faults_in unit ≡ [] → IsFirstCycle (calls_of unit) path
+      → Refuses unit root (Recursion (names_of unit path))
   by_root : faults_in unit ≡ [] → HasNoCycle unit → has_root unit root ≡ false → Refuses unit root (NoRoot root)
 
 -- the checks pass

@@ -45,7 +45,8 @@ ArgumentsSuit words scopes [] (p ∷ ps) = ⊥
 ArgumentsSuit words scopes (e ∷ es) [] = ⊥
 ArgumentsSuit words scopes (e ∷ es) (p ∷ ps) = Suits words scopes p e × ArgumentsSuit words scopes es ps
 
-pub record IsCall (words : List Word) (defined : List ℕ) (scopes : List Scope) (call : CallTree) (o : Outcome) : Type 0 where
+pub record IsCall (words : List Word) (defined : List ℕ) (scopes : List Scope) (call : CallTree)
+    (o : Outcome) : Type 0 where
   pub entry : Entry
   pub params : List Scalar
   pub found : look_up words scopes call.name ≡ Some entry
@@ -53,7 +54,8 @@ pub record IsCall (words : List Word) (defined : List ℕ) (scopes : List Scope)
   pub made : is_defined words defined call.name ≡ true
   pub arguments : ArgumentsSuit words scopes call.arguments params
 
-pub record IsValuedCall (words : List Word) (defined : List ℕ) (scopes : List Scope) (wanted : Scalar) (call : CallTree) : Type 0 where
+pub record IsValuedCall (words : List Word) (defined : List ℕ) (scopes : List Scope) (wanted : Scalar)
+    (call : CallTree) : Type 0 where
   pub type : Integer
   pub call_of : IsCall words defined scopes call (outcomes.Integer type)
   pub suit : suits wanted (scalars.Integer type) ≡ true
@@ -69,7 +71,8 @@ IfValued words defined scopes wanted (Some value) = ValueSuits words defined sco
 -- ---- effects
 
 -- `x op= e` is typed as `x = x op e`
-pub record IsUpdate (words : List Word) (scopes : List Scope) (to : Expression) (op : Binary) (e : Expression) : Type 0 where
+pub record IsUpdate (words : List Word) (scopes : List Scope) (to : Expression) (op : Binary)
+    (e : Expression) : Type 0 where
   pub type : Scalar
   pub other : Scalar
   pub given : Scalar

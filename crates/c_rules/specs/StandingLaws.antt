@@ -36,7 +36,8 @@ no_fault fault faults none = absurd (let bad : fault ∷ faults ≡ [] = none in
 -- ---- expressions
 
 module _ (words : List Word) (scopes : List Scope) where
-  pub suits_where_wanted : (wanted : Scalar) (e : Expression) → wanted_faults words scopes (Some wanted) e ≡ [] → Suits words scopes wanted e
+  pub suits_where_wanted : (wanted : Scalar) (e : Expression) → wanted_faults words scopes (Some wanted) e ≡ []
+      → Suits words scopes wanted e
   suits_where_wanted wanted e none =
       let parts = apart (faults_of words scopes e) (unsuited wanted (type_of words scopes e) (first_of e)) none in
       let r = typed words scopes e parts.0 in
@@ -46,7 +47,8 @@ module _ (words : List Word) (scopes : List Scope) where
         suit = negated (suits wanted r.0) (not_when (not (suits wanted r.0)) (Mistyped (first_of e)) (sym (ap (λ (t : Option Scalar). unsuited wanted t (first_of e)) (is_type words scopes e r.0 r.1)) ∙ parts.1));
       }
 
-  pub target_stands : (e : Expression) → target_faults words scopes e ≡ [] → (t : Scalar) × IsTarget words scopes e t × (target_type words scopes e ≡ Some t)
+  pub target_stands : (e : Expression) → target_faults words scopes e ≡ []
+      → (t : Scalar) × IsTarget words scopes e t × (target_type words scopes e ≡ Some t)
   target_stands e none =
       let parts = apart (faults_of words scopes e) (when (is_some (type_of words scopes e) && not (designates words scopes e)) (Mistyped (first_of e))) none in
       let r = typed words scopes e parts.0 in
@@ -54,7 +56,8 @@ module _ (words : List Word) (scopes : List Scope) where
       let assignable = negated (designates words scopes e) (sym (ap (λ (x : Option Scalar). is_some x && not (designates words scopes e)) is) ∙ not_when (is_some (type_of words scopes e) && not (designates words scopes e)) (Mistyped (first_of e)) parts.1) in
       (r.0, record { has = r.1; assignable = assignable }, ap (λ (b : Bool). if b then type_of words scopes e else None) assignable ∙ is)
 
-  arguments_suit : (es : List Expression) (ps : List Scalar) → length es ≡ length ps → argument_faults words scopes es ps ≡ [] → ArgumentsSuit words scopes es ps
+  arguments_suit : (es : List Expression) (ps : List Scalar) → length es ≡ length ps
+      → argument_faults words scopes es ps ≡ [] → ArgumentsSuit words scopes es ps
   arguments_suit [] [] same none = tt
   arguments_suit [] (p ∷ ps) same none = absurd (let bad : 0 ≡ suc (length ps) = same in omega arith)
   arguments_suit (e ∷ es) [] same none = absurd (let bad : suc (length es) ≡ 0 = same in omega arith)
@@ -72,7 +75,8 @@ module _ (words : List Word) (defined : List ℕ) (scopes : List Scope) (way : U
     pub stands : IsCall words defined scopes call gives
     pub used : use_faults way gives call.name ≡ []
 
-  of_function : (e : Entry) (o : Outcome) (ps : List Scalar) → look_up words scopes call.name ≡ Some e → e.bound ≡ Function o ps → bound_faults words defined scopes way call (Function o ps) ≡ [] → Called
+  of_function : (e : Entry) (o : Outcome) (ps : List Scalar) → look_up words scopes call.name ≡ Some e
+      → e.bound ≡ Function o ps → bound_faults words defined scopes way call (Function o ps) ≡ [] → Called
   of_function e o ps found function none =
       let parts = apart (if is_defined words defined call.name then function_faults way o (length call.arguments) (length ps) call.name else Unknown call.name ∷ []) (argument_faults words scopes call.arguments ps) none in
       by_test (is_defined words defined call.name)
@@ -87,12 +91,14 @@ module _ (words : List Word) (defined : List ℕ) (scopes : List Scope) (way : U
       })
       (λ clear. no_fault (Unknown call.name) [] (sym (ap (λ (b : Bool). if b then function_faults way o (length call.arguments) (length ps) call.name else Unknown call.name ∷ []) clear) ∙ parts.0))
 
-  of_bound : (e : Entry) (b : Bound) → look_up words scopes call.name ≡ Some e → e.bound ≡ b → bound_faults words defined scopes way call b ≡ [] → Called
+  of_bound : (e : Entry) (b : Bound) → look_up words scopes call.name ≡ Some e → e.bound ≡ b
+      → bound_faults words defined scopes way call b ≡ [] → Called
   of_bound e (Variable t) found is none = no_fault (Mistyped call.name) (argument_faults words scopes call.arguments []) none
   of_bound e (Array i) found is none = no_fault (Mistyped call.name) (argument_faults words scopes call.arguments []) none
   of_bound e (Function o ps) found is none = of_function e o ps found is none
 
-  of_entry : (x : Option Entry) → look_up words scopes call.name ≡ x → entry_faults words defined scopes way call x ≡ [] → Called
+  of_entry : (x : Option Entry) → look_up words scopes call.name ≡ x → entry_faults words defined scopes way call x ≡ []
+      → Called
   of_entry None found none = no_fault (Unknown call.name) (argument_faults words scopes call.arguments []) none
   of_entry (Some e) found none = of_bound e e.bound found refl none
 
@@ -100,26 +106,31 @@ module _ (words : List Word) (defined : List ℕ) (scopes : List Scope) (way : U
   call_stands none = of_entry (look_up words scopes call.name) refl none
 
 module _ (words : List Word) (defined : List ℕ) (scopes : List Scope) where
-  valued : (wanted : Scalar) (call : CallTree) (o : Outcome) → IsCall words defined scopes call o → use_faults (Valued (Some wanted)) o call.name ≡ [] → IsValuedCall words defined scopes wanted call
+  valued : (wanted : Scalar) (call : CallTree) (o : Outcome) → IsCall words defined scopes call o
+      → use_faults (Valued (Some wanted)) o call.name ≡ [] → IsValuedCall words defined scopes wanted call
   valued wanted call outcomes.Nothing stands used = no_fault (Mistyped call.name) [] used
   valued wanted call (outcomes.Integer i) stands used =
       record { type = i; call_of = stands; suit = negated (suits wanted (scalars.Integer i)) (not_when (not (suits wanted (scalars.Integer i))) (Mistyped call.name) used) }
 
-  pub value_stands : (wanted : Scalar) (value : ValueTree) → value_faults words defined scopes (Some wanted) value ≡ [] → ValueSuits words defined scopes wanted value
+  pub value_stands : (wanted : Scalar) (value : ValueTree) → value_faults words defined scopes (Some wanted) value ≡ []
+      → ValueSuits words defined scopes wanted value
   value_stands wanted (OfExpression e) none = suits_where_wanted words scopes wanted e none
   value_stands wanted (OfCall call) none = let r = call_stands words defined scopes (Valued (Some wanted)) call none in valued wanted call r.gives r.stands r.used
 
-  if_valued : (wanted : Scalar) (value : Option ValueTree) → first_value_faults words defined scopes wanted value ≡ [] → IfValued words defined scopes wanted value
+  if_valued : (wanted : Scalar) (value : Option ValueTree) → first_value_faults words defined scopes wanted value ≡ []
+      → IfValued words defined scopes wanted value
   if_valued wanted None none = tt
   if_valued wanted (Some value) none = value_stands wanted value none
 
   -- ---- effects
 
-  suited : (wanted : Scalar) (given : Option Scalar) → updated wanted given ≡ true → (r : Scalar) × (given ≡ Some r) × (suits wanted r ≡ true)
+  suited : (wanted : Scalar) (given : Option Scalar) → updated wanted given ≡ true
+      → (r : Scalar) × (given ≡ Some r) × (suits wanted r ≡ true)
   suited wanted None is = absurd (let bad : false ≡ true = is in cc)
   suited wanted (Some r) is = (r, refl, is)
 
-  pub effect_stands : (effect : EffectTree) → effect_faults words defined scopes effect ≡ [] → EffectStands words defined scopes effect
+  pub effect_stands : (effect : EffectTree) → effect_faults words defined scopes effect ≡ []
+      → EffectStands words defined scopes effect
   effect_stands (Assigns to token value) none =
       let parts = apart (target_faults words scopes to) (value_faults words defined scopes (target_type words scopes to) value) none in
       let t = target_stands words scopes to parts.0 in
@@ -135,7 +146,8 @@ module _ (words : List Word) (defined : List ℕ) (scopes : List Scope) where
   effect_stands (Steps operand up token) none = let t = target_stands words scopes operand none in (t.0, t.1)
   effect_stands (Calls call) none = let r = call_stands words defined scopes Dropped call none in (r.gives, r.stands)
 
-  if_done : (effect : Option EffectTree) → if_effect words defined scopes effect ≡ [] → IfDone words defined scopes effect
+  if_done : (effect : Option EffectTree) → if_effect words defined scopes effect ≡ []
+      → IfDone words defined scopes effect
   if_done None none = tt
   if_done (Some effect) none = effect_stands effect none
 
@@ -143,7 +155,8 @@ module _ (words : List Word) (defined : List ℕ) (scopes : List Scope) where
   if_condition_stands None none = tt
   if_condition_stands (Some e) none = suits_where_wanted words scopes an_integer e none
 
-  return_stands : (o : Outcome) (token : ℕ) (value : Option ValueTree) → return_faults words defined scopes o token value ≡ [] → ReturnStands words defined scopes o value
+  return_stands : (o : Outcome) (token : ℕ) (value : Option ValueTree)
+      → return_faults words defined scopes o token value ≡ [] → ReturnStands words defined scopes o value
   return_stands outcomes.Nothing token None none = tt
   return_stands outcomes.Nothing token (Some value) none = no_fault (Mistyped token) (value_faults words defined scopes None value) none
   return_stands (outcomes.Integer i) token None none = no_fault (Mistyped token) [] none
@@ -165,12 +178,14 @@ above_zero : (n : ℕ) → (n == 0) ≡ false → 0 < n
 above_zero zero clear = absurd (let bad : true ≡ false = clear in cc)
 above_zero (suc n) clear = let low : 0 < suc n = omega arith in low
 
-pub array_stands : (words : List Word) (size : ℕ) (firsts : Option (List Constant)) → array_faults words size firsts ≡ [] → ArrayStands words size firsts
+pub array_stands : (words : List Word) (size : ℕ) (firsts : Option (List Constant))
+    → array_faults words size firsts ≡ [] → ArrayStands words size firsts
 array_stands words size firsts none =
     let parts = apart (when (number_of (worth_at words size) == 0) (Mistyped size)) (initialiser_faults (number_of (worth_at words size)) firsts) none in
     record { some = above_zero (number_of (worth_at words size)) (not_when (number_of (worth_at words size) == 0) (Mistyped size) parts.0); fit = at_most (number_of (worth_at words size)) firsts parts.1 }
 
-shape_stands : (words : List Word) (defined : List ℕ) (scopes : List Scope) (kind : Integer) (shape : LocalShapeTree) → shape_faults words defined scopes kind shape ≡ [] → ShapeStands words defined scopes kind shape
+shape_stands : (words : List Word) (defined : List ℕ) (scopes : List Scope) (kind : Integer) (shape : LocalShapeTree)
+    → shape_faults words defined scopes kind shape ≡ [] → ShapeStands words defined scopes kind shape
 shape_stands words defined scopes kind (LocalInteger first) none = if_valued words defined scopes (scalars.Integer kind) first none
 shape_stands words defined scopes kind (LocalPointer first) none = if_valued words defined scopes (scalars.Pointer kind) first none
 shape_stands words defined scopes kind (LocalArray size firsts) none = array_stands words size firsts none
@@ -187,7 +202,8 @@ locals_stand words defined kind scopes (local ∷ locals) none =
 
 module _ (words : List Word) (defined : List ℕ) where
   mutual
-    pub statement_stands : (around : Around) (scopes : List Scope) (s : Statement) → statement_faults words defined around scopes s ≡ [] → StatementStands words defined around scopes s
+    pub statement_stands : (around : Around) (scopes : List Scope) (s : Statement)
+        → statement_faults words defined around scopes s ≡ [] → StatementStands words defined around scopes s
     statement_stands around scopes (Empty token) none = tt
     statement_stands around scopes (Declares first kind locals) none = locals_stand words defined kind scopes locals none
     statement_stands around scopes (Block body) none = statements_stand (inside around) ([] ∷ scopes) body none
@@ -225,7 +241,8 @@ module _ (words : List Word) (defined : List ℕ) where
     statement_stands around scopes (Returns token value) none = return_stands words defined scopes around.result token value none
     statement_stands around scopes (Does effect) none = effect_stands words defined scopes effect none
 
-    pub statements_stand : (around : Around) (scopes : List Scope) (ss : Statements) → statements_faults words defined around scopes ss ≡ [] → StatementsStand words defined around scopes ss
+    pub statements_stand : (around : Around) (scopes : List Scope) (ss : Statements)
+        → statements_faults words defined around scopes ss ≡ [] → StatementsStand words defined around scopes ss
     statements_stand around scopes Nothing none = tt
     statements_stand around scopes (Then s rest) none =
         let parts = apart (statement_faults words defined around scopes s) (statements_faults words defined (around_after words around s) (scopes_after scopes s) rest) none in

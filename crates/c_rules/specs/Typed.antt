@@ -12,10 +12,18 @@ use Rattle.c_rules.specs.Expressions.{value_type, designates}
 
 -- the expression has the type
 pub data HasType (words : List Word) (scopes : List Scope) : Expression → Scalar → Type 0 where
-  constant : {token : ℕ} {t : Scalar} → constant_type (worth_at words token) ≡ t → HasType words scopes (OfConstant token) t
-  object : {token : ℕ} {e : Entry} {t : Scalar} → look_up words scopes token ≡ Some e → value_type e.bound ≡ Some t → HasType words scopes (OfName token) t
-  within : {token : ℕ} {inner : Expression} {t : Scalar} → HasType words scopes inner t → HasType words scopes (InParentheses token inner) t
-  before : {op : Unary} {token : ℕ} {operand : Expression} {t r : Scalar} → HasType words scopes operand t → unary_type op (designates words scopes operand) t ≡ Some r → HasType words scopes (WithUnary op token operand) r
-  converted : {token : ℕ} {to : Scalar} {operand : Expression} {t r : Scalar} → HasType words scopes operand t → cast_type to t ≡ Some r → HasType words scopes (WithCast token to operand) r
-  indexed : {base : Expression} {token : ℕ} {index : Expression} {b i r : Scalar} → HasType words scopes base b → HasType words scopes index i → index_type b i ≡ Some r → HasType words scopes (AtIndex base token index) r
-  between : {op : Binary} {token : ℕ} {left right : Expression} {a b r : Scalar} → HasType words scopes left a → HasType words scopes right b → binary_type op a b ≡ Some r → HasType words scopes (WithBinary op token left right) r
+  constant : {token : ℕ} {t : Scalar} → constant_type (worth_at words token) ≡ t
+      → HasType words scopes (OfConstant token) t
+  object : {token : ℕ} {e : Entry} {t : Scalar} → look_up words scopes token ≡ Some e → value_type e.bound ≡ Some t
+      → HasType words scopes (OfName token) t
+  within : {token : ℕ} {inner : Expression} {t : Scalar} → HasType words scopes inner t
+      → HasType words scopes (InParentheses token inner) t
+  before : {op : Unary} {token : ℕ} {operand : Expression} {t r : Scalar} → HasType words scopes operand t
+      → unary_type op (designates words scopes operand) t ≡ Some r → HasType words scopes (WithUnary op token operand) r
+  converted : {token : ℕ} {to : Scalar} {operand : Expression} {t r : Scalar} → HasType words scopes operand t
+      → cast_type to t ≡ Some r → HasType words scopes (WithCast token to operand) r
+  indexed : {base : Expression} {token : ℕ} {index : Expression} {b i r : Scalar} → HasType words scopes base b
+      → HasType words scopes index i → index_type b i ≡ Some r → HasType words scopes (AtIndex base token index) r
+  between : {op : Binary} {token : ℕ} {left right : Expression} {a b r : Scalar} → HasType words scopes left a
+      → HasType words scopes right b → binary_type op a b ≡ Some r
+      → HasType words scopes (WithBinary op token left right) r

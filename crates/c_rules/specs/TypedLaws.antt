@@ -40,13 +40,15 @@ negated true clear = refl
 negated false clear = absurd (let bad : true ≡ false = clear in cc)
 
 -- what fits gives something
-pub fitted : (given : Option Scalar) (token : ℕ) (known : Bool) → known ≡ true → misfit known given token ≡ [] → (r : Scalar) × given ≡ Some r
+pub fitted : (given : Option Scalar) (token : ℕ) (known : Bool) → known ≡ true → misfit known given token ≡ []
+    → (r : Scalar) × given ≡ Some r
 fitted given token true is none = some_of given (negated (is_some given) (not_when (not (is_some given)) (Mistyped token) none))
 fitted given token false is none = absurd (let bad : false ≡ true = is in cc)
 
 -- ---- types
 
-pub is_type : (words : List Word) (scopes : List Scope) (e : Expression) (t : Scalar) → HasType words scopes e t → type_of words scopes e ≡ Some t
+pub is_type : (words : List Word) (scopes : List Scope) (e : Expression) (t : Scalar) → HasType words scopes e t
+    → type_of words scopes e ≡ Some t
 is_type words scopes e t (constant {token = token} {t = u} is) = ap (λ (v : Scalar). Some v) is
 is_type words scopes e t (object {token = token} {e = entry} {t = u} found is) = ap (λ (x : Option Entry). type_at x) found ∙ is
 is_type words scopes e t (within {token = token} {inner = inner} {t = u} of) = is_type words scopes inner u of
@@ -64,12 +66,14 @@ is_type words scopes e t (between {op = op} {token = token} {left = left} {right
 -- ---- an expression without faults has a type
 
 -- of what suits an integer
-pub an_integer_of : (t : Scalar) (token : ℕ) → unsuited an_integer (Some t) token ≡ [] → (i : Integer) × t ≡ scalars.Integer i
+pub an_integer_of : (t : Scalar) (token : ℕ) → unsuited an_integer (Some t) token ≡ []
+    → (i : Integer) × t ≡ scalars.Integer i
 an_integer_of (scalars.Integer i) token none = (i, refl)
 an_integer_of (scalars.Pointer i) token none = absurd (let bad : Mistyped token ∷ [] ≡ [] = none in cc)
 
 -- the parts of a condition give an `int`
-of_conditions : (op : Binary) → is_of_conditions op ≡ true → (a b : Integer) → binary_type op (scalars.Integer a) (scalars.Integer b) ≡ Some (scalars.Integer Int)
+of_conditions : (op : Binary) → is_of_conditions op ≡ true → (a b : Integer)
+    → binary_type op (scalars.Integer a) (scalars.Integer b) ≡ Some (scalars.Integer Int)
 of_conditions binary.Both is a b = refl
 of_conditions binary.Either is a b = refl
 of_conditions binary.Multiply is a b = absurd (let bad : false ≡ true = is in cc)
@@ -94,7 +98,9 @@ by_entry None none some = none refl
 by_entry (Some e) none some = some e refl
 
 -- the operands of an operator fit it
-pair_fits : (op : Binary) (a b : Scalar) (first second : ℕ) → part_faults op (Some a) first ≡ [] → part_faults op (Some b) second ≡ [] → pair_faults op (Some a) (Some b) first ≡ [] → (r : Scalar) × binary_type op a b ≡ Some r
+pair_fits : (op : Binary) (a b : Scalar) (first second : ℕ) → part_faults op (Some a) first ≡ []
+    → part_faults op (Some b) second ≡ [] → pair_faults op (Some a) (Some b) first ≡ []
+    → (r : Scalar) × binary_type op a b ≡ Some r
 pair_fits op a b first second left right pair =
     by_test (is_of_conditions op)
     (λ is.

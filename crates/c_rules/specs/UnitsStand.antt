@@ -43,7 +43,8 @@ DeclaratorsStand words o file [] = ⊤
 DeclaratorsStand words o file (d ∷ ds) = ShapeStands words file.scope o d.name d.shape × DeclaratorsStand words o (with_global file d.name (global_bound o d.shape)) ds
 
 -- a definition: the only one of its function
-pub record DefinitionStands (words : List Word) (defined : List ℕ) (file : File) (first : ℕ) (o : Outcome) (name : ℕ) (params : List Parameter) (body : List Statement) : Type 0 where
+pub record DefinitionStands (words : List Word) (defined : List ℕ) (file : File) (first : ℕ) (o : Outcome) (name : ℕ)
+    (params : List Parameter) (body : List Statement) : Type 0 where
   pub only : is_defined words file.made name ≡ false
   pub new : NewOrFunction (named words name file.scope)
   pub params_new : ParametersStand words [] params

@@ -12,8 +12,10 @@ ghost use Rattle.c_rules.specs.Programs.{IsProgram};
 
 /// An expression without faults has a type, and what has a type has the one that is told.
 pub fn expressions_have_one_type()
-    ensures some { (words : List Word) (scopes : List Scope) (e : Expression) → faults_of words scopes e ≡ [] → (t : Scalar) × HasType words scopes e t }
-    ensures told { (words : List Word) (scopes : List Scope) (e : Expression) (t : Scalar) → HasType words scopes e t → type_of words scopes e ≡ Some t }
+    ensures some { (words : List Word) (scopes : List Scope) (e : Expression) → faults_of words scopes e ≡ []
+        → (t : Scalar) × HasType words scopes e t }
+    ensures told { (words : List Word) (scopes : List Scope) (e : Expression) (t : Scalar) → HasType words scopes e t
+        → type_of words scopes e ≡ Some t }
 {}
 
 /// In a program each construct keeps what it asks for: operands, values and arguments suit, calls name

@@ -4,7 +4,8 @@ ghost use Rattle.std.specs.Prelude.{◌≡◌, Some, None, true, false};
 ghost use Rattle.c_unit.specs.declared.types.Integer.TheVariants.{Char, UnsignedChar, Short, Int, UnsignedInt};
 ghost use Rattle.c_unit.specs.declared.types.Scalar.TheVariants.{Integer, Pointer};
 ghost use Rattle.c_unit.specs.declared.expression.Unary.TheVariants.{Not, Minus, Load, Address};
-ghost use Rattle.c_unit.specs.declared.expression.Binary.TheVariants.{Add, Subtract, ShiftLeft, ShiftRight, Less, Equal, Both};
+ghost use Rattle.c_unit.specs.declared.expression.Binary.TheVariants.{Add, Subtract, ShiftLeft, ShiftRight, Less};
+ghost use Rattle.c_unit.specs.declared.expression.Binary.TheVariants.{Equal, Both};
 ghost use Rattle.c_rules.specs.Types.{suits, unary_type, cast_type, index_type, binary_type};
 
 /// A pointer stands only where its very type is wanted, and pointers of two types are neither

@@ -1,12 +1,17 @@
 //! Checks of small units, worked out apart from the definitions.
 
 ghost use Rattle.std.specs.Prelude.{◌≡◌, Some, None, [], ◌∷◌, codes, true, false};
-ghost use Rattle.c_unit.specs.declared.types.Integer.TheVariants.{Char, UnsignedChar, Short, UnsignedShort, Int, UnsignedInt};
+ghost use Rattle.c_unit.specs.declared.types.Integer.TheVariants.{Char, UnsignedChar, Short, UnsignedShort, Int};
+ghost use Rattle.c_unit.specs.declared.types.Integer.TheVariants.{UnsignedInt};
 ghost use Rattle.c_rules.specs.Types.{common};
 ghost use Rattle.c_rules.specs.Units.{faults_in};
 ghost use Rattle.c_rules.specs.Recursion.{calls_of, names_of};
 ghost use Rattle.c_rules.specs.Programs.{UnknownName, DuplicateName, MistypedAt, first_refusal, has_root};
-ghost use Rattle.c_rules.specs.Worked.{in_a_circle, with_an_unknown_name, without_main, with_a_name_twice, with_a_lone_break, with_a_cast_of_a_number, without_a_definition, with_a_local_called, with_nothing_returned, with_an_inner_name, with_a_parameter_twice, with_a_label_twice, with_a_pointer_as_condition, found_in, entry_a, entry_b};
+ghost use Rattle.c_rules.specs.Worked.{in_a_circle, with_an_unknown_name, without_main, with_a_name_twice};
+ghost use Rattle.c_rules.specs.Worked.{with_a_lone_break, with_a_cast_of_a_number, without_a_definition};
+ghost use Rattle.c_rules.specs.Worked.{with_a_local_called, with_nothing_returned, with_an_inner_name};
+ghost use Rattle.c_rules.specs.Worked.{with_a_parameter_twice, with_a_label_twice, with_a_pointer_as_condition};
+ghost use Rattle.c_rules.specs.Worked.{found_in, entry_a, entry_b};
 
 /// Small types are converted to `int`, and an `int` beside an `unsigned int` is converted to that.
 pub fn small_types_become_int()
@@ -26,7 +31,8 @@ pub fn names_are_declared_once()
 /// where the cast begins.
 pub fn what_is_wrong_has_a_place()
     ensures lone { first_refusal with_a_lone_break ≡ Some (MistypedAt (record { offset = 15; line = 1; column = 16 })) }
-    ensures cast { first_refusal with_a_cast_of_a_number ≡ Some (MistypedAt (record { offset = 25; line = 1; column = 26 })) }
+    ensures cast { first_refusal with_a_cast_of_a_number
+        ≡ Some (MistypedAt (record { offset = 25; line = 1; column = 26 })) }
 {}
 
 /// Functions that call one another are found by the order of their definitions.
@@ -47,8 +53,10 @@ pub fn a_root_is_defined()
 /// gives is not used.
 pub fn calls_name_functions_that_are_defined()
     ensures prototype { first_refusal without_a_definition ≡ Some (UnknownName (codes "f")) }
-    ensures local { first_refusal with_a_local_called ≡ Some (MistypedAt (record { offset = 45; line = 1; column = 46 })) }
-    ensures nothing { first_refusal with_nothing_returned ≡ Some (MistypedAt (record { offset = 37; line = 1; column = 38 })) }
+    ensures local { first_refusal with_a_local_called
+        ≡ Some (MistypedAt (record { offset = 45; line = 1; column = 46 })) }
+    ensures nothing { first_refusal with_nothing_returned
+        ≡ Some (MistypedAt (record { offset = 37; line = 1; column = 38 })) }
 {}
 
 /// A block has a scope of its own, but the outermost one has that of the parameters.
@@ -59,8 +67,10 @@ pub fn blocks_are_scopes()
 
 /// Labels are compared after conversion, and a part of `&&` is wrong itself.
 pub fn labels_and_conditions_are_converted()
-    ensures label { first_refusal with_a_label_twice ≡ Some (MistypedAt (record { offset = 43; line = 1; column = 44 })) }
-    ensures part { first_refusal with_a_pointer_as_condition ≡ Some (MistypedAt (record { offset = 29; line = 1; column = 30 })) }
+    ensures label { first_refusal with_a_label_twice
+        ≡ Some (MistypedAt (record { offset = 43; line = 1; column = 44 })) }
+    ensures part { first_refusal with_a_pointer_as_condition
+        ≡ Some (MistypedAt (record { offset = 29; line = 1; column = 30 })) }
 {}
 
 /// A name is that of the innermost scope that has it.

@@ -25,7 +25,8 @@ made_next (Declaration first o ds) xs = refl
 made_next (Definition first o name params body) xs = refl
 
 -- a number counted from further back
-pub counted : (n : ℕ) (number : Option ℕ) → option_map (λ k. k + n) (option_map (λ k. k + 1) number) ≡ option_map (λ k. k + suc n) number
+pub counted : (n : ℕ) (number : Option ℕ)
+    → option_map (λ k. k + n) (option_map (λ k. k + 1) number) ≡ option_map (λ k. k + suc n) number
 counted n None = refl
 counted n (Some k) = ap Some (omega arith)
 
@@ -38,7 +39,8 @@ numbered_at words text names n name low is =
     (by_test (bytes_eq (text_at words name) text) (λ e. rw e (ap Some (zero-add n))) (λ e. rw e (counted n (number_named words (drop (suc n) names) text))))
 
 -- the number of the name at a token
-pub named_at : (words : List Word) (names : List ℕ) (token : ℕ) → number_named words names (text_at words token) ≡ number_at words names token
+pub named_at : (words : List Word) (names : List ℕ) (token : ℕ)
+    → number_named words names (text_at words token) ≡ number_at words names token
 named_at words [] token = refl
 named_at words (name ∷ names) token =
     ap (λ (number : Option ℕ). if bytes_eq (text_at words name) (text_at words token) then Some 0 else option_map (λ n. n + 1) number) (named_at words names token)
@@ -48,7 +50,8 @@ some_mapped None = refl
 some_mapped (Some n) = refl
 
 -- a function of this name is defined
-pub defined_named : (words : List Word) (names : List ℕ) (token : ℕ) → is_some (number_at words names token) ≡ is_defined words names token
+pub defined_named : (words : List Word) (names : List ℕ) (token : ℕ)
+    → is_some (number_at words names token) ≡ is_defined words names token
 defined_named words [] token = refl
 defined_named words (name ∷ names) token =
     by_test (bytes_eq (text_at words name) (text_at words token)) (λ e. rw e refl)
@@ -63,14 +66,16 @@ below_zero : (number : Option ℕ) → is_below 0 number ≡ false
 below_zero None = refl
 below_zero (Some n) = grind (arith, nat_tests)
 
-below_mapped : (count : ℕ) (number : Option ℕ) → is_below (suc count) (option_map (λ n. n + 1) number) ≡ is_below count number
+below_mapped : (count : ℕ) (number : Option ℕ)
+    → is_below (suc count) (option_map (λ n. n + 1) number) ≡ is_below count number
 below_mapped count None = refl
 below_mapped count (Some n) = grind (arith, nat_tests)
 
 below_first : (count : ℕ) → nat_lt 0 (suc count) ≡ true
 below_first count = grind (arith, nat_tests)
 
-within : (words : List Word) (names : List ℕ) (token count : ℕ) → is_below count (number_at words names token) ≡ is_defined words (take count names) token
+within : (words : List Word) (names : List ℕ) (token count : ℕ)
+    → is_below count (number_at words names token) ≡ is_defined words (take count names) token
 within words names token zero = below_zero (number_at words names token)
 within words [] token (suc count) = refl
 within words (name ∷ names) token (suc count) =
@@ -97,6 +102,7 @@ turned test (x ∷ xs) =
     ∙ ap (λ (b : Bool). list_any test xs || b) (or-false (test x)) ∙ either_way (list_any test xs) (test x)
 
 -- it is among the first
-pub defined_before : (words : List Word) (names : List ℕ) (token count : ℕ) → is_below count (number_at words names token) ≡ is_defined words (reverse (take count names)) token
+pub defined_before : (words : List Word) (names : List ℕ) (token count : ℕ)
+    → is_below count (number_at words names token) ≡ is_defined words (reverse (take count names)) token
 defined_before words names token count =
     within words names token count ∙ sym (turned (λ other. bytes_eq (text_at words other) (text_at words token)) (take count names))

@@ -19,7 +19,8 @@ use Rattle.c_scopes.proofs.Ends.{with_last, turned_more}
 use Rattle.c_scopes.proofs.RowLaws.{latest_within}
 
 -- names in two parts
-split_named : (words : List Word) (token : ℕ) (k : ℕ) (es : List Entry) → named words token es ≡ or_further (named words token (take k es)) (named words token (drop k es))
+split_named : (words : List Word) (token : ℕ) (k : ℕ) (es : List Entry)
+    → named words token es ≡ or_further (named words token (take k es)) (named words token (drop k es))
 split_named words token zero es = refl
 split_named words token (suc k) [] = refl
 split_named words token (suc k) (e ∷ es) =
@@ -35,7 +36,8 @@ none_left (x ∷ xs) none = absurd (more (length xs) none)
 below : (es : Scope) (start : ℕ) → start ≤ length es → length (drop (length es - start) es) ≡ start
 below es start low = length-drop (length es - start) es ∙ omega arith
 
-pub looked_up : (words : List Word) (token : ℕ) (es : Scope) (starts : List ℕ) → IsCut (length es) starts → named words token es ≡ look_up words (scopes_from es starts) token
+pub looked_up : (words : List Word) (token : ℕ) (es : Scope) (starts : List ℕ) → IsCut (length es) starts
+    → named words token es ≡ look_up words (scopes_from es starts) token
 looked_up words token es [] cut = rw (none_left es cut) refl
 looked_up words token es (start ∷ starts) cut =
     let rest = drop (length es - start) es in
@@ -78,12 +80,14 @@ within_scope words token start (e ∷ es) low =
     (λ is. let high : suc (length es) ≤ start = grind (arith, nat_tests) in past_start words token start e es high)
 
 -- a name more
-pub one_more : (e : Entry) (es : Scope) (start : ℕ) (starts : List ℕ) → start ≤ length es → scopes_from (e ∷ es) (start ∷ starts) ≡ with_name e (scopes_from es (start ∷ starts))
+pub one_more : (e : Entry) (es : Scope) (start : ℕ) (starts : List ℕ) → start ≤ length es
+    → scopes_from (e ∷ es) (start ∷ starts) ≡ with_name e (scopes_from es (start ∷ starts))
 one_more e es start starts low =
     let count : suc (length es) - start ≡ suc (length es - start) = omega arith in
     rw count refl
 
-pub begun_more : (e : Entry) (es : Scope) (starts : List ℕ) → IsCut (length es) starts → scopes_from (e ∷ es) (begun starts) ≡ with_name e (scopes_from es starts)
+pub begun_more : (e : Entry) (es : Scope) (starts : List ℕ) → IsCut (length es) starts
+    → scopes_from (e ∷ es) (begun starts) ≡ with_name e (scopes_from es starts)
 begun_more e es [] cut = rw (none_left es cut) refl
 begun_more e es (start ∷ starts) cut = one_more e es start starts cut.0
 
@@ -102,7 +106,8 @@ pub fewer_length : {A : Type 0} (xs : List A) → length (others xs) ≡ length 
 fewer_length [] = omega arith
 fewer_length (x ∷ xs) = omega arith
 
-pub fewer : {A : Type 0} (xs all : List A) → 0 < length xs → length xs ≤ length all → xs ≡ drop (length all - length xs) all → others xs ≡ drop (length all - length (others xs)) all
+pub fewer : {A : Type 0} (xs all : List A) → 0 < length xs → length xs ≤ length all
+    → xs ≡ drop (length all - length xs) all → others xs ≡ drop (length all - length (others xs)) all
 fewer {A} [] all some few is = absurd (nothing some)
   where
     nothing : 0 < 0 → ⊥
@@ -112,7 +117,8 @@ fewer {A} (x ∷ xs) all some few is =
     ap (λ (ys : List A). others ys) is ∙ sym (drop_more (length all - suc (length xs)) all) ∙ ap (λ (n : ℕ). drop n all) count
 
 -- of the innermost scope, by the last of the starts
-pub last_start : (words : List Word) (token : ℕ) (es : Scope) (starts : List ℕ) (start : ℕ) → slice_get starts (length starts - 1) ≡ Some start → IsCut (length es) (reverse starts)
+pub last_start : (words : List Word) (token : ℕ) (es : Scope) (starts : List ℕ) (start : ℕ)
+    → slice_get starts (length starts - 1) ≡ Some start → IsCut (length es) (reverse starts)
     → is_declared words (innermost (scopes_from es (reverse starts))) token ≡ reaches start (latest words es (text_at words token))
 last_start words token es starts start last cut =
     let turned = ap (λ (xs : List ℕ). reverse xs) (with_last starts start last) ∙ turned_more (take (length starts - 1) starts) start in
@@ -120,7 +126,8 @@ last_start words token es starts start last cut =
     rw turned (within_scope words token start es here.0)
 
 -- where taking back ends
-pub end_of : (all left count : ℕ) → left ≤ count → left ≤ all → (count ≤ all → count ≤ left) → (all ≤ count → left ≡ all) → all - left ≡ all - count
+pub end_of : (all left count : ℕ) → left ≤ count → left ≤ all → (count ≤ all → count ≤ left)
+    → (all ≤ count → left ≡ all) → all - left ≡ all - count
 end_of all left count ended few enough whole =
     by_test (leb count all)
     (λ is. let low : count ≤ all = grind (arith, nat_tests) in let same = enough low in omega arith)

@@ -27,7 +27,8 @@ none_some : {A : Type 0} {x : A} → None ≡ Some x → ⊥
 none_some found = cc
 
 -- a list with its last member
-from_end : {A : Type 0} (x : A) (ys : List A) → slice_get (reverse ys) (length (reverse ys) - 1) ≡ Some x → reverse ys ≡ take (length (reverse ys) - 1) (reverse ys) ++ x ∷ []
+from_end : {A : Type 0} (x : A) (ys : List A) → slice_get (reverse ys) (length (reverse ys) - 1) ≡ Some x
+    → reverse ys ≡ take (length (reverse ys) - 1) (reverse ys) ++ x ∷ []
 from_end {A} x [] found = absurd (none_some found)
 from_end {A} x (y ∷ ys) found =
     let turned = turned_cons y ys in
@@ -36,6 +37,7 @@ from_end {A} x (y ∷ ys) found =
     let is : y ≡ x = cc in
     rw (turned, count, take-append_seam (reverse ys) (y ∷ [])) (ap (λ (z : A). reverse ys ++ z ∷ []) is)
 
-pub with_last : {A : Type 0} (xs : List A) (x : A) → slice_get xs (length xs - 1) ≡ Some x → xs ≡ take (length xs - 1) xs ++ x ∷ []
+pub with_last : {A : Type 0} (xs : List A) (x : A) → slice_get xs (length xs - 1) ≡ Some x
+    → xs ≡ take (length xs - 1) xs ++ x ∷ []
 with_last {A} xs x is =
     subst (λ (ys : List A). slice_get ys (length ys - 1) ≡ Some x → ys ≡ take (length ys - 1) ys ++ x ∷ []) (reverse-reverse xs) (from_end x (reverse xs)) is

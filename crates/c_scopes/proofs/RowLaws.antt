@@ -20,7 +20,8 @@ use Rattle.c_scopes.specs.Rows.{latest, held_entry, newest, found, Hides, IsRow}
 use Rattle.c_scopes.proofs.Ends.{turned_more, turned_cons, get_seam, get_before}
 
 -- a place is below the number of names
-pub latest_within : (words : List Word) (es : List Entry) (name : List ℕ) → IfSome (latest words es name) (λ place. place < length es)
+pub latest_within : (words : List Word) (es : List Entry) (name : List ℕ)
+    → IfSome (latest words es name) (λ place. place < length es)
 latest_within words [] name = tt
 latest_within words (e ∷ es) name =
     by_test (bytes_eq (text_at words e.token) name) (λ here. rw here (omega arith)) (λ there. rw there (further (latest words es name) (length es) (latest_within words es name)))
@@ -33,7 +34,8 @@ latest_within words (e ∷ es) name =
 abbrev pub at_place : List Held → Option ℕ → Option Entry
 at_place helds place = option_map held_entry (option_and_then (λ k. slice_get helds k) place)
 
-at_before : (helds : List Held) (h : Held) (place : Option ℕ) → IfSome place (λ k. k < length helds) → at_place (helds ++ h ∷ []) place ≡ at_place helds place
+at_before : (helds : List Held) (h : Held) (place : Option ℕ) → IfSome place (λ k. k < length helds)
+    → at_place (helds ++ h ∷ []) place ≡ at_place helds place
 at_before helds h None low = refl
 at_before helds h (Some k) low = ap (option_map held_entry) (get_before helds (h ∷ []) k low)
 
@@ -47,23 +49,27 @@ turned_newest words token (h ∷ hs) =
     (λ here. rw (here, count) (ap (option_map held_entry) (get_seam (reverse hs) h)))
     (λ there. rw there (at_before (reverse hs) h (latest words (map held_entry hs) (text_at words token)) low ∙ turned_newest words token hs)))
 
-pub found_newest : (words : List Word) (token : ℕ) (helds : List Held) → at_place helds (latest words (newest helds) (text_at words token)) ≡ named words token (newest helds)
+pub found_newest : (words : List Word) (token : ℕ) (helds : List Held)
+    → at_place helds (latest words (newest helds) (text_at words token)) ≡ named words token (newest helds)
 found_newest words token helds =
     subst (λ (hs : List Held). at_place hs (latest words (newest helds) (text_at words token)) ≡ named words token (newest helds)) (reverse-reverse helds) (turned_newest words token (reverse helds))
 
 pub none_at : (helds : List Held) (place : ℕ) → length helds ≤ place → at_place helds (Some place) ≡ None
 none_at helds place past = ap (option_map held_entry) (slice_get_past helds place past)
 
-pub some_at : (helds : List Held) (place : ℕ) (h : Held) → place < length helds → h ≡ get_or helds place h → at_place helds (Some place) ≡ Some (held_entry h)
+pub some_at : (helds : List Held) (place : ℕ) (h : Held) → place < length helds → h ≡ get_or helds place h
+    → at_place helds (Some place) ≡ Some (held_entry h)
 some_at helds place h low is = ap (option_map held_entry) (slice_get_read helds (length helds) place h refl low is)
 
 module _ {S : Type 0} (words : List Word) where
   -- a table that has the same
-  pub same_row : (helds : List Held) (table after : IndexMap (Bor (List ℕ)) ℕ S) → IsRow words helds table → ((name : List ℕ) → found after name ≡ found table name) → IsRow words helds after
+  pub same_row : (helds : List Held) (table after : IndexMap (Bor (List ℕ)) ℕ S) → IsRow words helds table
+      → ((name : List ℕ) → found after name ≡ found table name) → IsRow words helds after
   same_row helds table after row same = record { has = λ name. same name ∙ row.has name; hides = row.hides }
 
   -- one name more
-  pub more_row : (helds : List Held) (h : Held) (table after : IndexMap (Bor (List ℕ)) ℕ S) → IsRow words helds table → h.hidden ≡ found table (text_at words h.entry.token)
+  pub more_row : (helds : List Held) (h : Held) (table after : IndexMap (Bor (List ℕ)) ℕ S) → IsRow words helds table
+      → h.hidden ≡ found table (text_at words h.entry.token)
       → ((name : List ℕ) → found after name ≡ (if bytes_eq (text_at words h.entry.token) name then Some (length helds) else found table name)) → IsRow words (helds ++ h ∷ []) after
   more_row helds h table after row hidden entered =
       let count : length (newest helds) ≡ length helds = length-map (reverse helds) held_entry ∙ length-reverse helds in
@@ -73,7 +79,8 @@ module _ {S : Type 0} (words : List Word) where
       }
 
   -- one name less
-  pub less_row : (helds : List Held) (h : Held) (table after : IndexMap (Bor (List ℕ)) ℕ S) → IsRow words (helds ++ h ∷ []) table
+  pub less_row : (helds : List Held) (h : Held) (table after : IndexMap (Bor (List ℕ)) ℕ S)
+      → IsRow words (helds ++ h ∷ []) table
       → ((name : List ℕ) → found after name ≡ (if bytes_eq (text_at words h.entry.token) name then h.hidden else found table name)) → IsRow words helds after
   less_row helds h table after row taken =
       let hides = subst (λ (hs : List Held). Hides words hs) (turned_more helds h) row.hides in

@@ -40,6 +40,7 @@ Hides words [] = ⊤
 Hides words (h ∷ hs) = (h.hidden ≡ latest words (map held_entry hs) (text_at words h.entry.token)) × Hides words hs
 
 -- the table has each name, under it the place of its newest entry
-pub record IsRow {S : Type 0} (words : List Word) (helds : List Held) (table : IndexMap (Bor (List ℕ)) ℕ S) : Type 0 where
+pub record IsRow {S : Type 0} (words : List Word) (helds : List Held)
+    (table : IndexMap (Bor (List ℕ)) ℕ S) : Type 0 where
   pub has : (name : List ℕ) → found table name ≡ latest words (newest helds) name
   pub hides : Hides words (reverse helds)

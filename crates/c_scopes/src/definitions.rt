@@ -36,7 +36,9 @@ impl<'a> Model for Definitions<'a> {
 impl<'a> Definitions<'a> {
     /// The definitions of this unit.
     pub fn of(alloc: Global, unit: &'a CUnit) -> Result<Self, AllocError>
-        ensures { IfOk result (λ all. all ≡ record { words = (unit_of unit.now).words; names = definitions (unit_of unit.now).externals }) }
+        ensures { IfOk result
+            (λ all. all
+            ≡ record { words = (unit_of unit.now).words; names = definitions (unit_of unit.now).externals }) }
     {
         let words = Words::of(unit);
         let names = names_of(alloc, &unit.externals)?;

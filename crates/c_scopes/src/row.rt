@@ -86,7 +86,12 @@ impl<'a> Row<'a> {
 
     /// One name more. Where memory runs out all is as it was.
     pub fn push(&mut self, token: u32, bound: Bound) -> Result<(), AllocError>
-        ensures done { OnOk result (self.new ≡ record { words = self.old.words; names = record { token = token; bound = bound_of bound } ∷ self.old.names }) }
+        ensures done { OnOk result
+            (self.new
+            ≡ record {
+              words = self.old.words;
+              names = record { token = token; bound = bound_of bound } ∷ self.old.names;
+            }) }
         ensures unchanged { OnErr result (self.new ≡ self.old) }
     {
         let name = self.words.text_at(token);
@@ -121,7 +126,9 @@ fn put_back<'a>(
     name: &'a [u8],
     hidden: Option<usize>,
 ) -> Result<(), AllocError>
-    ensures put { OnOk result ((other : List ℕ) → found table.new other ≡ (if bytes_eq name.now other then hidden else found table.old other)) }
+    ensures put { OnOk result
+        ((other : List ℕ)
+        → found table.new other ≡ (if bytes_eq name.now other then hidden else found table.old other)) }
     ensures unchanged { OnErr result ((other : List ℕ) → found table.new other ≡ found table.old other) }
 {
     match hidden {

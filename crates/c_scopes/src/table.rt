@@ -30,7 +30,9 @@ fn put<'a>(
     name: &'a [u8],
     number: usize,
 ) -> Result<(), AllocError>
-    ensures { OnOk result ((other : List ℕ) → found table.new other ≡ (if bytes_eq name.now other then Some number else found table.old other)) }
+    ensures { OnOk result
+        ((other : List ℕ)
+        → found table.new other ≡ (if bytes_eq name.now other then Some number else found table.old other)) }
 {
     table.insert(name, number)?;
     Ok(())

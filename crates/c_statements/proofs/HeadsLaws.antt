@@ -32,7 +32,8 @@ pub after_both : {A B C : Type 0} (read : Read A) (f : A × Place → Read B) (g
 after_both (Ok r) f g k same = same r
 after_both (Err e) f g k same = refl
 
-pub same_after : {A B : Type 0} (read : Read A) (f g : A × Place → Read B) → ((r : A × Place) → f r ≡ g r) → and_then read f ≡ and_then read g
+pub same_after : {A B : Type 0} (read : Read A) (f g : A × Place → Read B) → ((r : A × Place) → f r ≡ g r)
+    → and_then read f ≡ and_then read g
 same_after (Ok r) f g same = same r
 same_after (Err e) f g same = refl
 
@@ -42,12 +43,14 @@ given (Ok r) = refl
 given (Err e) = refl
 
 -- a statement in which none stands
-pub whole_read : (inner : Inside) (read : Read Statement) → read ≡ and_then (and_then {B = HeadTree × Place} read (λ r. Ok (Whole r.0, r.1))) (follows inner)
+pub whole_read : (inner : Inside) (read : Read Statement)
+    → read ≡ and_then (and_then {B = HeadTree × Place} read (λ r. Ok (Whole r.0, r.1))) (follows inner)
 unfolding after_head
 whole_read inner (Ok r) = refl
 whole_read inner (Err e) = refl
 
-pub either_splits : {a b : Bool} (inner : Inside) (p q : Rule a Statement) (h k : Rule b HeadTree) → Splits inner p h → Splits inner q k
+pub either_splits : {a b : Bool} (inner : Inside) (p q : Rule a Statement) (h k : Rule b HeadTree) → Splits inner p h
+    → Splits inner q k
     → (first : Bool) → Splits inner (either first p q) (either first h k)
 either_splits inner p q h k s t true = s
 either_splits inner p q h k s t false = t
@@ -117,7 +120,8 @@ pub label_splits : (inner : Inside) → Splits inner label label_head
 unfolding label_head
 label_splits inner at = whole_read inner (label.form.reading at)
 
-pub block_splits : (inner : Inside) (o : Others) (place : Standing) → Splits inner (block o (inner place)) (block_head o place)
+pub block_splits : (inner : Inside) (o : Others) (place : Standing)
+    → Splits inner (block o (inner place)) (block_head o place)
 unfolding block block_head after_head braced
 block_splits inner o place at = after_both ((mark (codes "{") o).form.reading at) _ _ _ (λ r. refl)
 

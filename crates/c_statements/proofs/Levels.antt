@@ -8,12 +8,14 @@ use Rattle.c_grammar.specs.Statements.{standing, placed_statement, fits_too_nest
 use Rattle.c_statements.specs.Heads.{headed}
 use Rattle.c_statements.proofs.HeadsLaws.{placed_splits}
 
-pub standing_none : (n : ℕ) (s : Standing) (at : Place) → n ≡ 0 → (standing n s).form.reading at ≡ (innermost s).form.reading at
+pub standing_none : (n : ℕ) (s : Standing) (at : Place) → n ≡ 0
+    → (standing n s).form.reading at ≡ (innermost s).form.reading at
 unfolding standing
 standing_none zero s at e = refl
 standing_none (suc n) s at e = absurd (omega arith)
 
-pub standing_more : (n : ℕ) (s : Standing) (at : Place) → 0 < n → (standing n s).form.reading at ≡ (headed (standing (n - 1)) s).form.reading at
+pub standing_more : (n : ℕ) (s : Standing) (at : Place) → 0 < n
+    → (standing n s).form.reading at ≡ (headed (standing (n - 1)) s).form.reading at
 unfolding standing headed
 standing_more zero s at h = absurd (omega arith)
 standing_more (suc n) s at h = let e : suc n - 1 ≡ n = omega arith in rw e (placed_splits (standing n) s at)

@@ -2,7 +2,8 @@
 
 ghost use Rattle.c_unit.specs.Tree.{expression_of, effect_of};
 ghost use Rattle.c_grammar.specs.Tokens.{before};
-ghost use Rattle.c_grammar.specs.Statements.{effect_end, call_effect, step, prefix_step, assigning_mark, assign, update, postfix_step, effect_after, target_effect, other_effect, effect};
+ghost use Rattle.c_grammar.specs.Statements.{effect_end, call_effect, step, prefix_step, assigning_mark, assign};
+ghost use Rattle.c_grammar.specs.Statements.{update, postfix_step, effect_after, target_effect, other_effect, effect};
 ghost use Rattle.c_reader.specs.Reading.{Reads};
 
 use c_expressions::{
@@ -134,7 +135,8 @@ fn effect_after(
     assigning: Assigning,
     token: u32,
 ) -> Result<Effect, Departure>
-    ensures { Reads (effect_after parens last (expression_of to) assigning token) effect_of result reader.old reader.new }
+    ensures { Reads (effect_after parens last (expression_of to) assigning token) effect_of result reader.old
+        reader.new }
 {
     match assigning {
         Assigning::Assign => assign(reader, parens, last, to, token),

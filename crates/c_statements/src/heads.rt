@@ -1,7 +1,10 @@
 //! Heads of statements: each up to the statements that stand in it.
 
 ghost use Rattle.c_reader.specs.Reading.{seen, Reads};
-ghost use Rattle.c_statements.specs.Heads.{head_of, if_head, while_head, for_head, switch_head, leaving_head, worded_head_after, worded_head, empty_head, block_head, effect_head, unworded_long_head, unworded_head, statement_head, declared_head, item_head, label_head, switch_item_head, placed_head};
+ghost use Rattle.c_statements.specs.Heads.{head_of, if_head, while_head, for_head, switch_head, leaving_head};
+ghost use Rattle.c_statements.specs.Heads.{worded_head_after, worded_head, empty_head, block_head, effect_head};
+ghost use Rattle.c_statements.specs.Heads.{unworded_long_head, unworded_head, statement_head, declared_head, item_head};
+ghost use Rattle.c_statements.specs.Heads.{label_head, switch_item_head, placed_head};
 
 use crate::labels::{at_worded, read_label};
 use crate::locals::declaration;

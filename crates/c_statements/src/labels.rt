@@ -5,7 +5,8 @@ ghost use Rattle.grammar.specs.Form.{Fails};
 ghost use Rattle.c_unit.specs.Tree.{statement_of};
 ghost use Rattle.c_grammar.specs.Symbols.{starts_statement, is_label, is_brace};
 ghost use Rattle.c_grammar.specs.Tokens.{at_symbol, one};
-ghost use Rattle.c_grammar.specs.Statements.{label_end, colon, case_label, default_label, label, is_statement, may_begin, others_at, fits_too_nested};
+ghost use Rattle.c_grammar.specs.Statements.{label_end, colon, case_label, default_label, label, is_statement};
+ghost use Rattle.c_grammar.specs.Statements.{may_begin, others_at, fits_too_nested};
 ghost use Rattle.c_reader.specs.Reading.{position, fault_of, Reads};
 
 use c_grammar::{Others, Standing, Symbol, starts_statement};

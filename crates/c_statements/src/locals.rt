@@ -5,7 +5,8 @@ ghost use Rattle.std.specs.Option.{option_map};
 ghost use Rattle.grammar.specs.Rule.{maybe, many};
 ghost use Rattle.c_unit.specs.Tree.{value_of, local_of, statement_of};
 ghost use Rattle.c_grammar.specs.Types.{at_assign, at_list_comma};
-ghost use Rattle.c_grammar.specs.Statements.{initial, after_local, local_end, pointer_local, array_local, integer_local, plain_local, local, further_local, semicolon, declaration};
+ghost use Rattle.c_grammar.specs.Statements.{initial, after_local, local_end, pointer_local, array_local};
+ghost use Rattle.c_grammar.specs.Statements.{integer_local, plain_local, local, further_local, semicolon, declaration};
 ghost use Rattle.c_reader.specs.Reading.{Reads};
 
 use crate::parts::Locals;

@@ -2,7 +2,9 @@
 
 ghost use Rattle.std.specs.Option.{option_map};
 ghost use Rattle.c_unit.specs.Tree.{expression_of, effect_of, statement_of};
-ghost use Rattle.c_grammar.specs.Statements.{controlling, while_word, empty_first, declared_first, effect_first, some_first, for_first, empty_condition, some_condition, for_condition, empty_last, some_last, for_last, switch_value};
+ghost use Rattle.c_grammar.specs.Statements.{controlling, while_word, empty_first, declared_first, effect_first};
+ghost use Rattle.c_grammar.specs.Statements.{some_first, for_first, empty_condition, some_condition, for_condition};
+ghost use Rattle.c_grammar.specs.Statements.{empty_last, some_last, for_last, switch_value};
 ghost use Rattle.c_reader.specs.Reading.{Reads};
 
 use crate::effects::read_effect;

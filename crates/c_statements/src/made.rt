@@ -9,7 +9,8 @@ use crate::heads::Control;
 use c_unit::{Effect, Expr, Stmt};
 
 fn if_statement(condition: Expr, body: Box<Stmt>, otherwise: Option<Box<Stmt>>) -> Stmt
-    ensures { statement_of result ≡ if_of (expression_of condition) (statement_of body.value) (option_map (λ s. statement_of s.value) otherwise) }
+    ensures { statement_of result
+        ≡ if_of (expression_of condition) (statement_of body.value) (option_map (λ s. statement_of s.value) otherwise) }
 {
     match otherwise {
         None => Stmt::If(condition, body, None),
@@ -33,7 +34,9 @@ fn for_statement(
     after: Option<Effect>,
     body: Box<Stmt>,
 ) -> Stmt
-    ensures { statement_of result ≡ for_of (option_map (λ s. statement_of s.value) first) (option_map expression_of condition) (option_map effect_of after) (statement_of body.value) }
+    ensures { statement_of result
+        ≡ for_of (option_map (λ s. statement_of s.value) first) (option_map expression_of condition)
+        (option_map effect_of after) (statement_of body.value) }
 {
     match first {
         None => Stmt::For(None, condition, after, body),
@@ -48,7 +51,9 @@ pub fn control_statement(
     otherwise: Option<Box<Stmt>>,
     tail: Option<Expr>,
 ) -> Stmt
-    ensures { statement_of result ≡ control_tree (control_of control) (statement_of body.value) (option_map (λ s. statement_of s.value) otherwise) (option_map expression_of tail) }
+    ensures { statement_of result
+        ≡ control_tree (control_of control) (statement_of body.value) (option_map (λ s. statement_of s.value) otherwise)
+        (option_map expression_of tail) }
 {
     match control {
         Control::If(condition) => if_statement(condition, body, otherwise),

@@ -1,7 +1,8 @@
 //! Statements in which no statement stands.
 
 ghost use Rattle.c_unit.specs.Tree.{statement_of};
-ghost use Rattle.c_grammar.specs.Statements.{break_after, continue_after, return_nothing, return_value, return_after, leaving_after, empty_statement, effect_statement};
+ghost use Rattle.c_grammar.specs.Statements.{break_after, continue_after, return_nothing, return_value, return_after};
+ghost use Rattle.c_grammar.specs.Statements.{leaving_after, empty_statement, effect_statement};
 ghost use Rattle.c_reader.specs.Reading.{seen, Reads};
 
 use crate::effects::read_effect;

@@ -75,7 +75,8 @@ fn switched(reader: &mut Reader<'_>, nesting: u32, value: Expr) -> Result<Stmt, 
 #[cycle(statement)]
 #[tactic(auto, using(crate::proofs::Levels::switch_none, crate::proofs::Levels::switch_more), unfolding(c_grammar::specs::Statements::block))]
 fn switch_block(reader: &mut Reader<'_>, nesting: u32) -> Result<Vec<Stmt>, Departure>
-    ensures { Reads (standing nesting standings.SwitchBlock) (λ x. Block (statements_of (map statement_of x.items))) result reader.old reader.new }
+    ensures { Reads (standing nesting standings.SwitchBlock) (λ x. Block (statements_of (map statement_of x.items)))
+        result reader.old reader.new }
 {
     if nesting == 0 {
         return Err(too_nested(reader, Standing::SwitchBlock));
@@ -115,7 +116,8 @@ fn maybe_else(
     nesting: u32,
     may: bool,
 ) -> Result<Option<Box<Stmt>>, Departure>
-    ensures { Reads (maybe (λ at. may && at_else at) (else_part (standing nesting))) (option_map (λ s. statement_of s.value)) result reader.old reader.new }
+    ensures { Reads (maybe (λ at. may && at_else at) (else_part (standing nesting)))
+        (option_map (λ s. statement_of s.value)) result reader.old reader.new }
 {
     if !may {
         return Ok(None);
@@ -142,7 +144,8 @@ pub fn block_items(
     nesting: u32,
     place: Standing,
 ) -> Result<Vec<Stmt>, Departure>
-    ensures { Reads (many in_block (standing nesting place)) (λ x. map statement_of x.items) result reader.old reader.new }
+    ensures { Reads (many in_block (standing nesting place)) (λ x. map statement_of x.items) result reader.old
+        reader.new }
 {
     let mut items = Vec::new(reader.alloc);
     'row: while in_block(reader) {

@@ -1,4 +1,5 @@
-//! Tests of texts of C and of their checks: `c_tokens`, `c_unit`, `c_text` and `c_check`. Without tests this library is empty.
+//! Tests of texts of C and of their checks: `c_tokens`, `c_unit`, `c_text` and `c_check`. Without tests this library is
+//! empty.
 //!
 //! - `tokens`, `constants`, `units`: tokens and their places, what constants are worth, ranges and trees.
 //! - `readings`, `edits`, `limits`, `corners`: texts, texts with one token changed, texts at the limits and in corners of the

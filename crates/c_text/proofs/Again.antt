@@ -20,14 +20,16 @@ word_texts : (bytes : List ℕ) (ts : List Lexeme) → map text_of_word (map (wo
 word_texts bytes [] = refl
 word_texts bytes (t ∷ ts) = ap (λ (texts : List (List ℕ)). t.text ∷ texts) (word_texts bytes ts)
 
-unit_texts : (bytes : List ℕ) (whole : UnitTree) → whole.words ≡ words_of bytes → texts_of whole ≡ map text_of (tokens_of bytes)
+unit_texts : (bytes : List ℕ) (whole : UnitTree) → whole.words ≡ words_of bytes
+    → texts_of whole ≡ map text_of (tokens_of bytes)
 unit_texts bytes whole e = ap (λ (ws : List Word). map text_of_word ws) e ∙ word_texts bytes (tokens_of bytes)
 
 module _ (cut : EachPrintedTextIsCut) (kinds : EachTokenIsOfItsKind) (prints : EachSpelledTokenCanBePrinted) (numbers : NumberedByTheirTexts) where
   start_is : (bytes : List ℕ) → start bytes ≡ start_of_texts (map text_of (tokens_of bytes))
   start_is bytes = ap (λ (ss : List Seen). record { ahead = ss; room = full_room }) (numbers 0 (tokens_of bytes) (kinds bytes))
 
-  spelled_prints : (bytes : List ℕ) (whole : UnitTree) → SpellsUnit bytes whole → list_all can_print (texts_of whole) ≡ true
+  spelled_prints : (bytes : List ℕ) (whole : UnitTree) → SpellsUnit bytes whole
+      → list_all can_print (texts_of whole) ≡ true
   spelled_prints bytes whole s = rw (unit_texts bytes whole s.words) (prints full_room (tokens_of bytes) whole.externals s.trees.0 (kinds bytes) s.trees.1)
 
   pub printed : EachSpelledUnitCanBePrinted

@@ -19,12 +19,14 @@ meant bytes (Ok x) = Ok (record { words = words_of bytes; externals = x.0 })
 meant bytes (Err fault) = Err (placed bytes fault)
 
 module _ (bytes : List ℕ) where
-  says_means : (r : Result (List ExternalTree × Place) Fault) → Says unit.form (start bytes) r → Means bytes (meant bytes r)
+  says_means : (r : Result (List ExternalTree × Place) Fault) → Says unit.form (start bytes) r
+      → Means bytes (meant bytes r)
   says_means (Ok x) h = record { words = refl; trees = (x.1, h) }
   says_means (Err fault) h = (fault, h, refl)
 
   -- what is read is meant
-  pub read_means : (r : Result (List ExternalTree × Place) Fault) → unit.form.reading (start bytes) ≡ r → Means bytes (meant bytes r)
+  pub read_means : (r : Result (List ExternalTree × Place) Fault) → unit.form.reading (start bytes) ≡ r
+      → Means bytes (meant bytes r)
   read_means r e = says_means r (subst (Says unit.form (start bytes)) e (unit.exact.holds (start bytes)))
 
   abbrev with_words : List ExternalTree → List Word → Result UnitTree Departure
@@ -42,7 +44,8 @@ module _ (bytes : List ℕ) where
   }
 
   -- what is read of the tokens that were cut, where no function is declared, is spelled
-  pub read_trees : (ts : List Seen) (names : List (List ℕ × Bool)) → ts ≡ numbered 0 (tokens_of bytes) → names ≡ [] → (externals : List ExternalTree) (rest : Place)
+  pub read_trees : (ts : List Seen) (names : List (List ℕ × Bool)) → ts ≡ numbered 0 (tokens_of bytes) → names ≡ []
+      → (externals : List ExternalTree) (rest : Place)
       → unit.form.reading (record { ahead = ts; room = record { functions = 256; frames = 256; elements = 8192; names = names } }) ≡ Ok (externals, rest) → SpellsTrees bytes externals
   read_trees ts names cut none externals rest e =
       let here : unit.form.reading (start bytes) ≡ Ok (externals, rest) = (rw (cut, none) at e) in
@@ -53,7 +56,8 @@ module _ (bytes : List ℕ) where
   same_words tokens = map-map (word_of_span bytes) span_of tokens
 
   -- a unit of the tokens and of trees that are spelled
-  pub unit_spelled : (tokens : List CutToken) (externals : List ExternalTree) (whole : UnitTree) → map (word_in bytes) tokens ≡ words_of bytes → SpellsTrees bytes externals
+  pub unit_spelled : (tokens : List CutToken) (externals : List ExternalTree) (whole : UnitTree)
+      → map (word_in bytes) tokens ≡ words_of bytes → SpellsTrees bytes externals
       → whole ≡ record { words = map (word_in bytes) tokens; externals = externals } → SpellsUnit bytes whole
   unit_spelled tokens externals whole m s e = rw e (record { words = m; trees = s })
 

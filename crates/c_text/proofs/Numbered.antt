@@ -36,7 +36,8 @@ good_prints : (n : ℕ) (t : Lexeme) → IsOfItsKind t → Good (of_kind n t t.k
 unfolding can_print
 good_prints n t k g = subst (λ (o : Option Kind). has_printed_kind o ≡ true) (sym k) (g t.kind k refl)
 
-pub all_print : (n : ℕ) (ts : List Lexeme) → All IsOfItsKind ts → Each Good (numbered n ts) → list_all can_print (map text_of ts) ≡ true
+pub all_print : (n : ℕ) (ts : List Lexeme) → All IsOfItsKind ts → Each Good (numbered n ts)
+    → list_all can_print (map text_of ts) ≡ true
 all_print n [] all g = refl
 all_print n (t ∷ ts) all g =
     let first = good_prints n t (All-head IsOfItsKind t ts all) g.0 in

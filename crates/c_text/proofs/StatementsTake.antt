@@ -26,7 +26,8 @@ unfolding assigning_mark
 assigning_takes to last = one_takes (λ t. fits_assigning_of t.symbol (is_postfix to) (others.RestOrEnd last) t)
     (λ t x e. fitting (λ s t. fits_assigning_of s (is_postfix to) (others.RestOrEnd last) t) t (misfit (others.RestOrEnd last) t) x refl e)
 
-pub assigning_goes : (to : Expression) (last : Bool) → Quietly good_walk (assigning_mark to last).form (λ a. MayAssign (λ op. ⊤) a.0)
+pub assigning_goes : (to : Expression) (last : Bool)
+    → Quietly good_walk (assigning_mark to last).form (λ a. MayAssign (λ op. ⊤) a.0)
 assigning_goes to last = record { each = λ at x rest s. ((refl, all_may x.0), (assigning_takes to last).each at x rest s) }
 
 -- where the first word of a statement comes next

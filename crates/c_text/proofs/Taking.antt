@@ -43,22 +43,27 @@ good_symbol t h kinds.OpenLiteral k e = absurd (h e)
 good_symbol t h kinds.OpenComment k e = absurd (h e)
 
 -- a token that fits by its symbol, where none that is nothing to the grammar fits
-pub fitting : {A : Type 0} (fit : Symbol → Seen → Result A Fault) (t : Seen) (f : Fault) (x : A) → fit symbols.NoSymbol t ≡ Err f → fit t.symbol t ≡ Ok x → Good t
+pub fitting : {A : Type 0} (fit : Symbol → Seen → Result A Fault) (t : Seen) (f : Fault) (x : A)
+    → fit symbols.NoSymbol t ≡ Err f → fit t.symbol t ≡ Ok x → Good t
 fitting fit t f x none e = good_symbol t (λ k. let o : fit symbols.NoSymbol t ≡ Ok x = subst (λ (s : Symbol). fit s t ≡ Ok x) k e in ok_no_err x f (sym none ∙ o))
 
-one_first : {A : Type 0} (fit : Seen → Result A Fault) → ((t : Seen) (x : A) → fit t ≡ Ok x → Good t) → (ts : List Seen) (at : Place) (x : A)
+one_first : {A : Type 0} (fit : Seen → Result A Fault) → ((t : Seen) (x : A) → fit t ≡ Ok x → Good t)
+    → (ts : List Seen) (at : Place) (x : A)
     → fit_first (λ (at : Place). Syntax None) (λ (t : Seen) (at : Place). fit t) (first_of ts) at ≡ Ok x → Each Good (others_of ts) → Each Good ts
 one_first fit h [] at x e g = tt
 one_first fit h (t ∷ ts) at x e g = (h t x e, g)
 
-pub one_takes : {A : Type 0} (fit : Seen → Result A Fault) → ((t : Seen) (x : A) → fit t ≡ Ok x → Good t) → Takes (one fit).form
+pub one_takes : {A : Type 0} (fit : Seen → Result A Fault) → ((t : Seen) (x : A) → fit t ≡ Ok x → Good t)
+    → Takes (one fit).form
 one_takes fit h = record { each = λ at x rest s g. one_first fit h at.ahead at x s.0 (same (after at) rest s.1 g) }
 
-printed_text : (w text : List ℕ) (kind : Kind) → can_print w ≡ true → text ≡ w → kind_of text ≡ Some kind → is_printed_kind kind ≡ true
+printed_text : (w text : List ℕ) (kind : Kind) → can_print w ≡ true → text ≡ w → kind_of text ≡ Some kind
+    → is_printed_kind kind ≡ true
 unfolding can_print
 printed_text w text kind p e k = subst (λ (o : Option Kind). has_printed_kind o ≡ true) k (rw e p)
 
-fits_mark : (w : List ℕ) (o : Others) (t : Seen) (x : ℕ) (b : Bool) → bytes_eq t.text w ≡ b → cond b (Ok t.number) (Err (misfit o t)) ≡ Ok x → t.text ≡ w
+fits_mark : (w : List ℕ) (o : Others) (t : Seen) (x : ℕ) (b : Bool) → bytes_eq t.text w ≡ b
+    → cond b (Ok t.number) (Err (misfit o t)) ≡ Ok x → t.text ≡ w
 fits_mark w o t x true b e = (bytes_eq-Decides t.text w).0 b
 fits_mark w o t x false b e = ok_no_err x (misfit o t) e
 
@@ -68,14 +73,16 @@ unfolding mark
 mark_takes w o p = one_takes (fits_text w o) (λ t x e kind k s. printed_text w t.text kind p (fits_mark w o t x (bytes_eq t.text w) refl e) k)
 
 -- the next token is something to the grammar
-pub first_good : (is : Symbol → Bool) (ts : List Seen) → is symbols.NoSymbol ≡ false → is_first (λ (t : Seen). is t.symbol) (first_of ts) ≡ true → Each Good (others_of ts) → Each Good ts
+pub first_good : (is : Symbol → Bool) (ts : List Seen) → is symbols.NoSymbol ≡ false
+    → is_first (λ (t : Seen). is t.symbol) (first_of ts) ≡ true → Each Good (others_of ts) → Each Good ts
 first_good is [] none e g = tt
 first_good is (t ∷ ts) none e g = (good_symbol t (λ k. let b : is symbols.NoSymbol ≡ true = subst (λ (s : Symbol). is s ≡ true) k e in absurd cc), g)
 
 -- ---- one part and then another
 
 infixr 10 ◌>>>◌
-pub ◌>>>◌ : {A B : Type 0} {p : Form Seen Room Fault A} {q : A → Form Seen Room Fault B} → Takes p → ((x : A) → Takes (q x)) → Takes (bound p q)
+pub ◌>>>◌ : {A B : Type 0} {p : Form Seen Room Fault A} {q : A → Form Seen Room Fault B} → Takes p
+    → ((x : A) → Takes (q x)) → Takes (bound p q)
 hp >>> hq = record { each = λ at y rest s g. hp.each at s.0 s.1 s.2 ((hq s.0).each s.1 y rest s.3 g) }
 
 pub made_takes : {A : Type 0} {a : A} → Takes (made a)
@@ -85,17 +92,20 @@ pub judged_takes : {A : Type 0} {fit : Place → Result A Fault} → Takes (judg
 judged_takes = record { each = λ at x rest s g. same at rest s.1 g }
 
 -- no token is taken
-pub same_ahead : {A : Type 0} {p : Form Seen Room Fault A} → ((at : Place) (x : A) (rest : Place) → p.Spells at x rest → rest.ahead ≡ at.ahead) → Takes p
+pub same_ahead : {A : Type 0} {p : Form Seen Room Fault A}
+    → ((at : Place) (x : A) (rest : Place) → p.Spells at x rest → rest.ahead ≡ at.ahead) → Takes p
 same_ahead h = record { each = λ at x rest s g. subst (λ (ts : List Seen). Each Good ts) (h at x rest s) g }
 
-pub either_takes : {some : Bool} {A : Type 0} (b : Bool) (p q : Rule some A) → Takes p.form → Takes q.form → Takes (either b p q).form
+pub either_takes : {some : Bool} {A : Type 0} (b : Bool) (p q : Rule some A) → Takes p.form → Takes q.form
+    → Takes (either b p q).form
 either_takes true p q h i = h
 either_takes false p q h i = i
 
 -- ---- lists and chains
 
 module _ {A : Type 0} (goes_on : Place → Bool) (p : Form Seen Room Fault A) where
-  maybe_each : Takes p → (at : Place) (o : Option A) (rest : Place) → AtMostOne goes_on p at o rest → Each Good rest.ahead → Each Good at.ahead
+  maybe_each : Takes p → (at : Place) (o : Option A) (rest : Place) → AtMostOne goes_on p at o rest
+      → Each Good rest.ahead → Each Good at.ahead
   maybe_each h at None rest s g = same at rest s.1 g
   maybe_each h at (Some x) rest s g = h.each at x rest s.1 g
 

@@ -32,6 +32,7 @@ nothing_left [] e = tt
 nothing_left (t ∷ ts) e = absurd cc
 
 -- all tokens of a whole text
-pub unit_takes : (at : Place) (externals : List ExternalTree) (rest : Place) → unit.form.Spells at externals rest → Each Good at.ahead
+pub unit_takes : (at : Place) (externals : List ExternalTree) (rest : Place) → unit.form.Spells at externals rest
+    → Each Good at.ahead
 unfolding unit
 unit_takes at externals rest s = ((unit_goes good_units).each at externals rest s).1 (nothing_left rest.ahead s.1)

@@ -6,7 +6,8 @@ ghost use Rattle.std.specs.Option.{is_some};
 ghost use Rattle.grammar.specs.Rule.{many};
 ghost use Rattle.c_unit.specs.Tree.{shape_of, declarator_of};
 ghost use Rattle.c_grammar.specs.Types.{at_list_comma};
-ghost use Rattle.c_grammar.specs.Units.{gives, prototype, declarator, further_declarator, all_named, may_be_defined, lacks_names, after_sole, parameters_of};
+ghost use Rattle.c_grammar.specs.Units.{gives, prototype, declarator, further_declarator, all_named, may_be_defined};
+ghost use Rattle.c_grammar.specs.Units.{lacks_names, after_sole, parameters_of};
 ghost use Rattle.c_reader.specs.Reading.{seen, Reads};
 
 use crate::objects::object;
@@ -80,7 +81,8 @@ pub fn further_declarators(
     reader: &mut Reader<'_>,
     outcome: Outcome,
 ) -> Result<Vec<Declarator>, Departure>
-    ensures { Reads (many at_list_comma (further_declarator outcome)) (λ x. map declarator_of x.items) result reader.old reader.new }
+    ensures { Reads (many at_list_comma (further_declarator outcome)) (λ x. map declarator_of x.items) result reader.old
+        reader.new }
 {
     let declarators = many(reader.alloc, &Declarators { outcome }, reader)?;
     Ok(declarators)

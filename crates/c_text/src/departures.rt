@@ -40,7 +40,8 @@ fn place_of_span(text: &[u8], span: Span) -> Place
 }
 
 fn outside(alloc: Global, text: &[u8], span: Span) -> CTextFault
-    ensures { IfSome (departure_of result) (λ told. told ≡ OutsideAt (word_of_span text.now span).place (word_of_span text.now span).text) }
+    ensures { IfSome (departure_of result)
+        (λ told. told ≡ OutsideAt (word_of_span text.now span).place (word_of_span text.now span).text) }
 {
     match Name::new(alloc, range(text, span)) {
         Ok(name) => CTextFault::OutOfProfile(place_of_span(text, span), name),
@@ -62,7 +63,8 @@ fn place_told(text: &[u8], tokens: &[CutToken], number: Option<u32>) -> Place
 /// The departure with its place in the text, whose tokens are these.
 pub fn told(alloc: Global, text: &[u8], tokens: &[CutToken], departure: Departure) -> CTextFault
     requires { map (word_in text.now) tokens.now ≡ words_of text.now }
-    ensures { IfSome (departure_of result) (λ told. IsSomeAnd (fault_of departure) (λ fault. told ≡ placed text.now fault)) }
+    ensures { IfSome (departure_of result)
+        (λ told. IsSomeAnd (fault_of departure) (λ fault. told ≡ placed text.now fault)) }
 {
     match departure {
         Departure::Syntax(number) => CTextFault::Syntax(place_told(text, tokens, number)),

@@ -3,7 +3,8 @@
 ghost use Rattle.std.specs.Prelude.{◌≡◌, ◌&&◌, map, codes};
 ghost use Rattle.c_unit.specs.Tree.{declarator_of, statement_of, external_of};
 ghost use Rattle.c_grammar.specs.Tokens.{at_text};
-ghost use Rattle.c_grammar.specs.Units.{may_be_defined, declaration_after, body, open_body, definition_after, external_after, external, unit};
+ghost use Rattle.c_grammar.specs.Units.{may_be_defined, declaration_after, body, open_body, definition_after};
+ghost use Rattle.c_grammar.specs.Units.{external_after, external, unit};
 ghost use Rattle.c_reader.specs.Reading.{position, Reads};
 
 use crate::declarators::{
@@ -26,7 +27,8 @@ fn declaration_after(
     outcome: Outcome,
     declarator: Declarator,
 ) -> Result<External, Departure>
-    ensures { Reads (declaration_after first outcome (declarator_of declarator)) external_of result reader.old reader.new }
+    ensures { Reads (declaration_after first outcome (declarator_of declarator)) external_of result reader.old
+        reader.new }
 {
     let others = further_declarators(reader, outcome)?;
     semicolon(reader, after_sole(&declarator, others.as_slice()))?;
@@ -61,7 +63,8 @@ fn definition_after(
     outcome: Outcome,
     declarator: Declarator,
 ) -> Result<External, Departure>
-    ensures { Reads (definition_after first outcome (declarator_of declarator)) external_of result reader.old reader.new }
+    ensures { Reads (definition_after first outcome (declarator_of declarator)) external_of result reader.old
+        reader.new }
 {
     open_body(reader, parameter_count(&declarator.shape))?;
     let body = read_body(reader)?;
@@ -71,7 +74,8 @@ fn definition_after(
 
 // Whether the block of this function comes next.
 fn sees_body(reader: &Reader<'_>, declarator: &Declarator) -> bool
-    ensures { result ≡ (may_be_defined (declarator_of declarator.now).shape && at_text (codes "{") (position reader.now)) }
+    ensures { result
+        ≡ (may_be_defined (declarator_of declarator.now).shape && at_text (codes "{") (position reader.now)) }
 {
     may_be_defined(&declarator.shape) && reader.at(b"{")
 }

@@ -29,7 +29,8 @@ use std::alloc::{AllocError, Global};
 pub fn read(alloc: Global, bytes: &[u8]) -> Result<CUnit, CTextFault>
     // A text means one thing (`one_meaning`), and this is it.
     ensures spelled { IfOk result (λ unit. Means bytes.now (Ok (unit_of unit))) }
-    ensures departs { IfErr result (λ fault. IfSome (departure_of fault) (λ departure. Means bytes.now (Err departure))) }
+    ensures departs { IfErr result
+        (λ fault. IfSome (departure_of fault) (λ departure. Means bytes.now (Err departure))) }
     // The condition of `print`.
     ensures printed { IfOk result (λ unit. list_all can_print (texts_of (unit_of unit)) ≡ true) }
 {
@@ -85,7 +86,9 @@ fn whole_unit(
     tokens: &[CutToken],
     externals: Vec<External>,
 ) -> Result<CUnit, AllocError>
-    ensures { IfOk result (λ unit. unit_of unit ≡ record { words = map (word_in bytes.now) tokens.now; externals = map external_of externals.items }) }
+    ensures { IfOk result
+        (λ unit. unit_of unit
+        ≡ record { words = map (word_in bytes.now) tokens.now; externals = map external_of externals.items }) }
 {
     let text = bytes.to_vec(alloc)?;
     let tokens = spans(alloc, tokens)?;

@@ -5,7 +5,11 @@ ghost use Rattle.std.specs.Option.{option_map};
 ghost use Rattle.grammar.specs.Rule.{maybe, many};
 ghost use Rattle.c_grammar.specs.declared.others.Others.TheVariants as others;
 ghost use Rattle.c_grammar.specs.Tokens.{name};
-ghost use Rattle.c_grammar.specs.Types.{at_name, at_list_comma, parameter_end, number_of_name, after_pointer, pointer_parameter, empty_brackets, bracketed_type, after_plain, plain_parameter, parameter_tail, further_parameter, right_paren, parameters_from, void_parameters, parameters_after, some_parameters, no_parameters, parameters};
+ghost use Rattle.c_grammar.specs.Types.{at_name, at_list_comma, parameter_end, number_of_name, after_pointer};
+ghost use Rattle.c_grammar.specs.Types.{pointer_parameter, empty_brackets, bracketed_type, after_plain};
+ghost use Rattle.c_grammar.specs.Types.{plain_parameter, parameter_tail, further_parameter, right_paren};
+ghost use Rattle.c_grammar.specs.Types.{parameters_from, void_parameters, parameters_after, some_parameters};
+ghost use Rattle.c_grammar.specs.Types.{no_parameters, parameters};
 ghost use Rattle.c_reader.specs.Reading.{seen, Reads};
 
 use crate::sequences::Parameters;

@@ -47,7 +47,8 @@ module _ (b : ℕ) (cs : List ℕ) where
   pub comment_fits : Fits (λ xs. comment_kind (comment_end xs) xs) b cs (comment_piece (comment_end cs) (length cs))
   comment_fits = at_end (comment_end cs) refl
     where
-      at_end : (o : Option ℕ) → comment_end cs ≡ o → Fits (λ xs. comment_kind (comment_end xs) xs) b cs (comment_piece o (length cs))
+      at_end : (o : Option ℕ) → comment_end cs ≡ o
+          → Fits (λ xs. comment_kind (comment_end xs) xs) b cs (comment_piece o (length cs))
       at_end None e = record {
         within = omega arith;
         known = let w : take (length cs) cs ≡ cs = take_all (length cs) cs (omega arith) in inr (length cs, refl, rw (w, e) refl);
@@ -74,7 +75,8 @@ module _ (b : ℕ) (cs : List ℕ) where
   }
 
   -- a run that begins with the second byte
-  pub run_fits : (passes : List ℕ → Bool) (c : ℕ) (kind : Kind) (l : ℕ) → l ≤ length cs + 1 → passes (take l (c ∷ cs)) ≡ true
+  pub run_fits : (passes : List ℕ → Bool) (c : ℕ) (kind : Kind) (l : ℕ) → l ≤ length cs + 1
+      → passes (take l (c ∷ cs)) ≡ true
       → ((m : ℕ) → m ≤ length cs + 1 → passes (take m (c ∷ cs)) ≡ true → m ≤ l) → (l ≡ 0 → kind_of_one b ≡ kind) → Fits (λ xs. only (passes (c ∷ xs)) kind) b cs (kind, l + 1)
   run_fits passes c kind zero within holds most single = record {
     within = omega arith;
@@ -88,13 +90,16 @@ module _ (b : ℕ) (cs : List ℕ) where
   }
 
   -- a literal of which the quote is the second byte
-  pub wide_fits : (q : ℕ) → kind_of_one b ≡ kinds.Identifier → Fits (λ xs. only (is_end (literal_end q xs) xs) (literal_kind q)) b cs (wide_piece q (literal_end q cs))
+  pub wide_fits : (q : ℕ) → kind_of_one b ≡ kinds.Identifier
+      → Fits (λ xs. only (is_end (literal_end q xs) xs) (literal_kind q)) b cs (wide_piece q (literal_end q cs))
   wide_fits q single = at_end (literal_end q cs) refl
     where
-      found : (k : ℕ) → is_some (only (is_end (literal_end q (take k cs)) (take k cs)) (literal_kind q)) ≡ true → literal_end q cs ≡ Some (length (take k cs))
+      found : (k : ℕ) → is_some (only (is_end (literal_end q (take k cs)) (take k cs)) (literal_kind q)) ≡ true
+          → literal_end q cs ≡ Some (length (take k cs))
       found k h = end_of_prefix (closes_literal q) (goes_on_in_literal q) (start_of q) cs k (length (take k cs)) (is_end_at (literal_end q (take k cs)) (take k cs) (only_some _ (literal_kind q) h))
 
-      at_end : (o : Option ℕ) → literal_end q cs ≡ o → Fits (λ xs. only (is_end (literal_end q xs) xs) (literal_kind q)) b cs (wide_piece q o)
+      at_end : (o : Option ℕ) → literal_end q cs ≡ o
+          → Fits (λ xs. only (is_end (literal_end q xs) xs) (literal_kind q)) b cs (wide_piece q o)
       at_end None e = record { within = omega arith; known = inl (refl, single); most = λ k le h. let f = found k h in absurd cc }
       at_end (Some j) e =
           let inside = end_within (closes_literal q) (goes_on_in_literal q) (start_of q) cs j e in
@@ -110,11 +115,13 @@ module _ (b : ℕ) (cs : List ℕ) where
       → Fits (λ xs. quoted_kind q (literal_end q (c ∷ xs)) (c ∷ xs)) b cs (quoted_piece q (literal_end q (c ∷ cs)) (prefix_len in_line (c ∷ cs)))
   quote_fits q c single = at_end (literal_end q (c ∷ cs)) refl
     where
-      open_before : literal_end q (c ∷ cs) ≡ None → (k : ℕ) (o : Option ℕ) → literal_end q (c ∷ take k cs) ≡ o → o ≡ None
+      open_before : literal_end q (c ∷ cs) ≡ None → (k : ℕ) (o : Option ℕ) → literal_end q (c ∷ take k cs) ≡ o
+          → o ≡ None
       open_before e k None f = refl
       open_before e k (Some j) f = let g : literal_end q (c ∷ cs) ≡ Some j = end_of_prefix (closes_literal q) (goes_on_in_literal q) (start_of q) (c ∷ cs) (suc k) j f in absurd cc
 
-      open_fits : literal_end q (c ∷ cs) ≡ None → ((k : ℕ) → literal_end q (c ∷ take k cs) ≡ None) → (l : ℕ) → prefix_len in_line (c ∷ cs) ≡ l
+      open_fits : literal_end q (c ∷ cs) ≡ None → ((k : ℕ) → literal_end q (c ∷ take k cs) ≡ None) → (l : ℕ)
+          → prefix_len in_line (c ∷ cs) ≡ l
           → Fits (λ xs. quoted_kind q (literal_end q (c ∷ xs)) (c ∷ xs)) b cs (kinds.OpenLiteral, l + 1)
       open_fits e open_at zero is = record {
         within = omega arith;
@@ -143,7 +150,8 @@ module _ (b : ℕ) (cs : List ℕ) where
             ];
           }
 
-symbol_most : (b c : ℕ) (cs : List ℕ) (k : ℕ) → k ≤ length cs → is_punctuator (b ∷ c ∷ take k cs) ≡ true → k + 2 ≤ (symbol_piece b c cs).1
+symbol_most : (b c : ℕ) (cs : List ℕ) (k : ℕ) → k ≤ length cs → is_punctuator (b ∷ c ∷ take k cs) ≡ true
+    → k + 2 ≤ (symbol_piece b c cs).1
 symbol_most b c cs zero le h = at_least (begins_quadruple b c cs) _ _ 2 (omega arith) (at_least (begins_triple b c cs) _ _ 2 (omega arith) (rw h (omega arith)))
 symbol_most b c [] (suc k) le h = absurd (omega arith)
 symbol_most b c (d ∷ ds) (suc zero) le h = at_least (begins_quadruple b c (d ∷ ds)) _ _ 3 (omega arith) (rw h (omega arith))
@@ -152,7 +160,8 @@ symbol_most b c (d ∷ e ∷ es) (suc (suc zero)) le h = rw h (omega arith)
 symbol_most b c (d ∷ e ∷ []) (suc (suc (suc k))) le h = absurd (omega arith)
 symbol_most b c (d ∷ e ∷ f ∷ fs) (suc (suc (suc k))) le h = absurd cc
 
-pub symbol_fits : (b c : ℕ) (cs : List ℕ) → Fits (λ xs. only (is_punctuator (b ∷ c ∷ xs)) kinds.Punctuator) b cs (symbol_piece b c cs)
+pub symbol_fits : (b c : ℕ) (cs : List ℕ)
+    → Fits (λ xs. only (is_punctuator (b ∷ c ∷ xs)) kinds.Punctuator) b cs (symbol_piece b c cs)
 symbol_fits b c cs = record { within = (at_symbol cs).0; known = (at_symbol cs).1; most = λ k le h. symbol_most b c cs k le (only_some _ kinds.Punctuator h) }
   where
     Known : List ℕ → Kind × ℕ → Type 0
@@ -163,7 +172,8 @@ symbol_fits b c cs = record { within = (at_symbol cs).0; known = (at_symbol cs).
     at_pair cs true e = (omega arith, inr (0, refl, rw e refl))
     at_pair cs false e = (omega arith, inl (refl, refl))
 
-    at_triple : (d : ℕ) (ds : List ℕ) (t : Bool) → is_triple b c d ≡ t → Known (d ∷ ds) (cond t (kinds.Punctuator, 3) (cond (is_pair b c) (kinds.Punctuator, 2) (kind_of_one b, 1)))
+    at_triple : (d : ℕ) (ds : List ℕ) (t : Bool) → is_triple b c d ≡ t
+        → Known (d ∷ ds) (cond t (kinds.Punctuator, 3) (cond (is_pair b c) (kinds.Punctuator, 2) (kind_of_one b, 1)))
     at_triple d ds true e = (omega arith, inr (1, refl, rw e refl))
     at_triple d ds false e = at_pair (d ∷ ds) (is_pair b c) refl
 

@@ -22,13 +22,15 @@ plain_large false n lt = let e : nat_le n 2147483647 ≡ false = lt-leb n 214748
 grows : (base n d : ℕ) → 2 ≤ base → n ≤ n * base + d
 grows base n d le = let m : n * 1 ≤ n * base = mul-le-mul_left n (omega arith) in omega (arith, m)
 
-ends_large : (base : ℕ) (some suffix : Bool) (n m : ℕ) → 4294967295 < n → 4294967295 < m → judge base (at_end some n suffix) ≡ judge base (at_end some m suffix)
+ends_large : (base : ℕ) (some suffix : Bool) (n m : ℕ) → 4294967295 < n → 4294967295 < m
+    → judge base (at_end some n suffix) ≡ judge base (at_end some m suffix)
 ends_large base true true n m l k = unsigned_large n l ∙ sym (unsigned_large m k)
 ends_large base true false n m l k = plain_large (base == 10) n l ∙ sym (plain_large (base == 10) m k)
 ends_large base false suffix n m l k = refl
 
 -- of two numbers that are too large it does not matter which stands before the digits
-both_large : (base : ℕ) (some : Bool) (n m : ℕ) (rest : List ℕ) → 2 ≤ base → 4294967295 < n → 4294967295 < m → judge base (number_from base some n rest) ≡ judge base (number_from base some m rest)
+both_large : (base : ℕ) (some : Bool) (n m : ℕ) (rest : List ℕ) → 2 ≤ base → 4294967295 < n → 4294967295 < m
+    → judge base (number_from base some n rest) ≡ judge base (number_from base some m rest)
 both_large base some n m [] le l k = ends_large base some false n m l k
 both_large base some n m (b ∷ bs) le l k = by_digit (digit_in base b) (λ d. both_large base true (n * base + d) (m * base + d) bs le (omega (arith, grows base n d le)) (omega (arith, grows base m d le)))
   where
@@ -39,7 +41,8 @@ both_large base some n m (b ∷ bs) le l k = by_digit (digit_in base b) (λ d. b
     by_digit (Some d) more = more d
 
 -- a digit was read
-pub digit_read : (base : ℕ) (some : Bool) (number b d next : ℕ) (bs : List ℕ) (all : Worth) → 2 ≤ base → digit_in base b ≡ Some d → next ≤ 68719476735
+pub digit_read : (base : ℕ) (some : Bool) (number b d next : ℕ) (bs : List ℕ) (all : Worth) → 2 ≤ base
+    → digit_in base b ≡ Some d → next ≤ 68719476735
     → (number ≤ 4294967295 → next ≡ number * base + d) → (4294967295 < number → next ≡ number) → IsWorth base some number (b ∷ bs) all → IsWorth base true next bs all
 digit_read base some number b d next bs all le e within small large so = record { same = at_size (cases_lt 4294967295 number); within = within }
   where
@@ -51,5 +54,6 @@ digit_read base some number b d next bs all le e within small large so = record 
     at_size (inr ge) = rw (small ge) here
 
 -- a byte that is no digit, or the end
-pub no_digit : (base : ℕ) (some : Bool) (number b : ℕ) (bs : List ℕ) (all : Worth) → digit_in base b ≡ None → IsWorth base some number (b ∷ bs) all → judge base (at_end (some && is_last b bs) number true) ≡ all
+pub no_digit : (base : ℕ) (some : Bool) (number b : ℕ) (bs : List ℕ) (all : Worth) → digit_in base b ≡ None
+    → IsWorth base some number (b ∷ bs) all → judge base (at_end (some && is_last b bs) number true) ≡ all
 no_digit base some number b bs all e so = rw e at so.same

@@ -28,7 +28,8 @@ quote_alone b h = elim (or_cases (b == 39) (b == 34) h) [
 letter_alone : (b c : ℕ) → is_wide b c ≡ true → kind_of_one b ≡ kinds.Identifier
 letter_alone b c h = subst (λ (b : ℕ). kind_of_one b ≡ kinds.Identifier) (sym (eqb-true b 76 (and_parts (b == 76) (is_quote c) h).0)) refl
 
-number_alone : (b c : ℕ) (cs : List ℕ) → is_blank b ≡ false → is_letter b ≡ false → starts_number b c ≡ true → number_len false (c ∷ cs) ≡ 0 → kind_of_one b ≡ kinds.Number
+number_alone : (b c : ℕ) (cs : List ℕ) → is_blank b ≡ false → is_letter b ≡ false → starts_number b c ≡ true
+    → number_len false (c ∷ cs) ≡ 0 → kind_of_one b ≡ kinds.Number
 number_alone b c cs blank letter h none = elim (or_cases (is_ascii_digit b) ((b == 46) && is_ascii_digit c) h) [
   | inl e ↦ rw (blank, letter, e) refl
   | inr e ↦ let digit : is_ascii_digit c ≡ true = (and_parts (b == 46) (is_ascii_digit c) e).1 in
@@ -86,11 +87,13 @@ piece_is_cut b (c ∷ cs) = cut_longer b c cs (longer_piece b c cs) (longer_fits
 
 -- ---- the longest
 
-within_is : (bytes : List ℕ) (n c : ℕ) → n ≤ c → is_some (kind_of (take n bytes)) ≡ true → ((m : ℕ) → m ≤ c → is_some (kind_of (take m bytes)) ≡ true → m ≤ n) → longest_within c bytes ≡ n
+within_is : (bytes : List ℕ) (n c : ℕ) → n ≤ c → is_some (kind_of (take n bytes)) ≡ true
+    → ((m : ℕ) → m ≤ c → is_some (kind_of (take m bytes)) ≡ true → m ≤ n) → longest_within c bytes ≡ n
 within_is bytes n zero le known most = omega arith
 within_is bytes n (suc c) le known most = by_test (is_some (kind_of (take (suc c) bytes))) refl (cases_eq n (suc c)) (λ lt. within_is bytes n c lt known (λ m h. most m (omega arith)))
   where
-    by_test : (t : Bool) → is_some (kind_of (take (suc c) bytes)) ≡ t → (n ≡ suc c) ⊎ (n ≡ suc c → ⊥) → (n ≤ c → longest_within c bytes ≡ n)
+    by_test : (t : Bool) → is_some (kind_of (take (suc c) bytes)) ≡ t → (n ≡ suc c) ⊎ (n ≡ suc c → ⊥)
+        → (n ≤ c → longest_within c bytes ≡ n)
         → cond t (suc c) (longest_within c bytes) ≡ n
     by_test true e o more = let le2 : suc c ≤ n = most (suc c) (omega arith) e in omega arith
     by_test false e (inl same) more = let k : is_some (kind_of (take (suc c) bytes)) ≡ true = subst (λ (n : ℕ). is_some (kind_of (take n bytes)) ≡ true) same known in absurd cc

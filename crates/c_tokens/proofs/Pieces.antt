@@ -23,7 +23,8 @@ piece_at b bs = let h = piece_is_cut b bs in record { takes = h.takes; fits = h.
 abbrev pub lexeme_of : Kind → ℕ → List ℕ → Lexeme
 lexeme_of kind n bytes = record { kind = kind; text = take n bytes; left = length bytes }
 
-piece_is : (kind : Kind) (n : ℕ) (bytes : List ℕ) → IsPiece kind n bytes → piece_of (take (longest bytes) bytes) (length bytes) ≡ lexeme_of kind n bytes
+piece_is : (kind : Kind) (n : ℕ) (bytes : List ℕ) → IsPiece kind n bytes
+    → piece_of (take (longest bytes) bytes) (length bytes) ≡ lexeme_of kind n bytes
 piece_is kind n bytes h = rw (h.longest, h.known) refl
 
 rest_fits : (n b : ℕ) (bs : List ℕ) → length (b ∷ bs) ≤ suc n → length (drop (longest (b ∷ bs)) (b ∷ bs)) ≤ n
@@ -53,7 +54,8 @@ unfolding pieces_of
 pieces_are_the_text bytes = in_a_row (length bytes) bytes (omega arith)
 
 -- the tokens, by the first piece
-pub tokens_step : (kind : Kind) (n b : ℕ) (bs : List ℕ) → IsPiece kind n (b ∷ bs) → tokens_of (b ∷ bs) ≡ shown (lexeme_of kind n (b ∷ bs)) ++ tokens_of (drop n (b ∷ bs))
+pub tokens_step : (kind : Kind) (n b : ℕ) (bs : List ℕ) → IsPiece kind n (b ∷ bs)
+    → tokens_of (b ∷ bs) ≡ shown (lexeme_of kind n (b ∷ bs)) ++ tokens_of (drop n (b ∷ bs))
 unfolding tokens_of pieces_of
 tokens_step kind n b bs h =
     let le : length (drop n (b ∷ bs)) ≤ length bs = omega (arith, length-drop n (b ∷ bs), h.takes) in
@@ -75,7 +77,8 @@ no_tokens (b ∷ bs) e = absurd (omega arith)
 abbrev IsKnown : Lexeme → Type 0
 IsKnown t = kind_of t.text ≡ Some t.kind
 
-known_first : (t : Lexeme) (ts : List Lexeme) → IsKnown t → All IsKnown ts → (w : Bool) → All IsKnown (cond w (t ∷ ts) ts)
+known_first : (t : Lexeme) (ts : List Lexeme) → IsKnown t → All IsKnown ts → (w : Bool)
+    → All IsKnown (cond w (t ∷ ts) ts)
 known_first t ts known more true = All-cons IsKnown t ts known more
 known_first t ts known more false = more
 
@@ -94,11 +97,13 @@ unfolding tokens_of pieces_of
 tokens_known bytes = all_known (length bytes) bytes
 
 -- each piece stands in the text, where the rest of the text from it on is what is left
-stands_first : (bytes : List ℕ) (t : Lexeme) (ts : List Lexeme) → StandsIn bytes t → All (StandsIn bytes) ts → (w : Bool) → All (StandsIn bytes) (cond w (t ∷ ts) ts)
+stands_first : (bytes : List ℕ) (t : Lexeme) (ts : List Lexeme) → StandsIn bytes t → All (StandsIn bytes) ts
+    → (w : Bool) → All (StandsIn bytes) (cond w (t ∷ ts) ts)
 stands_first bytes t ts here more true = All-cons (StandsIn bytes) t ts here more
 stands_first bytes t ts here more false = more
 
-all_stand : (n : ℕ) (bytes : List ℕ) (k : ℕ) (rest : List ℕ) → drop k bytes ≡ rest → k + length rest ≡ length bytes → All (StandsIn bytes) (filter is_token (cut n rest))
+all_stand : (n : ℕ) (bytes : List ℕ) (k : ℕ) (rest : List ℕ) → drop k bytes ≡ rest → k + length rest ≡ length bytes
+    → All (StandsIn bytes) (filter is_token (cut n rest))
 all_stand zero bytes k rest e len = All-nil (StandsIn bytes)
 all_stand (suc n) bytes k [] e len = All-nil (StandsIn bytes)
 all_stand (suc n) bytes k (b ∷ bs) e len =
@@ -126,9 +131,11 @@ module _ (p : Kind × ℕ) (rest : List ℕ) (is : p ≡ cut_piece rest) (some :
       at_rest [] some = absurd (omega arith)
       at_rest (b ∷ bs) some = piece_at b bs
 
-  pub cut_tokens : (text : List ℕ) → text ≡ take p.1 rest → tokens_of rest ≡ shown (record { kind = p.0; text = text; left = length rest }) ++ tokens_of (drop p.1 rest)
+  pub cut_tokens : (text : List ℕ) → text ≡ take p.1 rest
+      → tokens_of rest ≡ shown (record { kind = p.0; text = text; left = length rest }) ++ tokens_of (drop p.1 rest)
   cut_tokens text e = rw e (at_rest rest some cut_is)
     where
-      at_rest : (rest : List ℕ) → 0 < length rest → IsPiece p.0 p.1 rest → tokens_of rest ≡ shown (lexeme_of p.0 p.1 rest) ++ tokens_of (drop p.1 rest)
+      at_rest : (rest : List ℕ) → 0 < length rest → IsPiece p.0 p.1 rest
+          → tokens_of rest ≡ shown (lexeme_of p.0 p.1 rest) ++ tokens_of (drop p.1 rest)
       at_rest [] some h = absurd (omega arith)
       at_rest (b ∷ bs) some h = tokens_step p.0 p.1 b bs h

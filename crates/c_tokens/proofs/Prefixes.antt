@@ -11,7 +11,8 @@ module _ (p : ℕ → Bool) where
   run_passes [] = refl
   run_passes (x ∷ xs) = by_byte (run_passes xs) (p x) refl
     where
-      by_byte : list_all p (take (prefix_len p xs) xs) ≡ true → (t : Bool) → p x ≡ t → list_all p (take (cond t (1 + prefix_len p xs) 0) (x ∷ xs)) ≡ true
+      by_byte : list_all p (take (prefix_len p xs) xs) ≡ true → (t : Bool) → p x ≡ t
+          → list_all p (take (cond t (1 + prefix_len p xs) 0) (x ∷ xs)) ≡ true
       by_byte more true e = let k : 1 + prefix_len p xs ≡ suc (prefix_len p xs) = omega arith in rw (k, e) more
       by_byte more false e = refl
 
@@ -35,12 +36,14 @@ pub number_goes_on : (e : Bool) (xs : List ℕ) → is_number_rest e (take (numb
 number_goes_on e [] = refl
 number_goes_on e (x ∷ xs) = by_byte (number_goes_on (marks_exponent x) xs) (goes_on e x) refl
   where
-    by_byte : is_number_rest (marks_exponent x) (take (number_len (marks_exponent x) xs) xs) ≡ true → (t : Bool) → goes_on e x ≡ t
+    by_byte : is_number_rest (marks_exponent x) (take (number_len (marks_exponent x) xs) xs) ≡ true → (t : Bool)
+        → goes_on e x ≡ t
         → is_number_rest e (take (cond t (suc (number_len (marks_exponent x) xs)) 0) (x ∷ xs)) ≡ true
     by_byte more true h = rw h more
     by_byte more false h = refl
 
-pub number_most : (e : Bool) (xs : List ℕ) (m : ℕ) → m ≤ length xs → is_number_rest e (take m xs) ≡ true → m ≤ number_len e xs
+pub number_most : (e : Bool) (xs : List ℕ) (m : ℕ) → m ≤ length xs → is_number_rest e (take m xs) ≡ true
+    → m ≤ number_len e xs
 number_most e [] m le h = omega arith
 number_most e (x ∷ xs) zero le h = omega arith
 number_most e (x ∷ xs) (suc m) le h =
@@ -51,15 +54,18 @@ pub number_within : (e : Bool) (xs : List ℕ) → number_len e xs ≤ length xs
 number_within e [] = omega arith
 number_within e (x ∷ xs) = by_byte (number_within (marks_exponent x) xs) (goes_on e x)
   where
-    by_byte : number_len (marks_exponent x) xs ≤ length xs → (t : Bool) → cond t (suc (number_len (marks_exponent x) xs)) 0 ≤ suc (length xs)
+    by_byte : number_len (marks_exponent x) xs ≤ length xs → (t : Bool)
+        → cond t (suc (number_len (marks_exponent x) xs)) 0 ≤ suc (length xs)
     by_byte more true = omega arith
     by_byte more false = omega arith
 
 -- a byte that does not go on ends a number
-pub number_ends : (e : Bool) (xs : List ℕ) (b : ℕ) (more : List ℕ) → ((e : Bool) → goes_on e b ≡ false) → is_number_rest e (xs ++ b ∷ more) ≡ false
+pub number_ends : (e : Bool) (xs : List ℕ) (b : ℕ) (more : List ℕ) → ((e : Bool) → goes_on e b ≡ false)
+    → is_number_rest e (xs ++ b ∷ more) ≡ false
 number_ends e [] b more stops = rw (stops e) refl
 number_ends e (x ∷ xs) b more stops = by_first (goes_on e x) (number_ends (marks_exponent x) xs b more stops)
   where
-    by_first : (t : Bool) → is_number_rest (marks_exponent x) (xs ++ b ∷ more) ≡ false → t && is_number_rest (marks_exponent x) (xs ++ b ∷ more) ≡ false
+    by_first : (t : Bool) → is_number_rest (marks_exponent x) (xs ++ b ∷ more) ≡ false
+        → t && is_number_rest (marks_exponent x) (xs ++ b ∷ more) ≡ false
     by_first true h = h
     by_first false h = refl

@@ -26,7 +26,8 @@ kind_is : (o : Option Kind) → has_printed_kind o ≡ true → (kind : Kind) ×
 kind_is None h = absurd cc
 kind_is (Some kind) h = (kind, refl, printed_shown kind h)
 
-text_kind : (text : List ℕ) → can_print text ≡ true → (kind : Kind) × (kind_of text ≡ Some kind) × (is_white kind ≡ false)
+text_kind : (text : List ℕ) → can_print text ≡ true
+    → (kind : Kind) × (kind_of text ≡ Some kind) × (is_white kind ≡ false)
 unfolding can_print
 text_kind text h = kind_is (kind_of text) h
 
@@ -37,7 +38,8 @@ module _ (s : ℕ) (is : Separates s) where
   separator_first : (rest : List ℕ) → tokens_of (s ∷ rest) ≡ tokens_of rest
   separator_first rest = tokens_step kinds.White 1 s rest (subst (λ (p : Kind × ℕ). IsPiece p.0 p.1 (s ∷ rest)) (is.alone rest) (piece_at s rest))
 
-  at_text : (text rest : List ℕ) (kind : Kind) → IsPiece kind (length text) (text ++ s ∷ rest) → is_white kind ≡ false → texts_of (text ++ s ∷ rest) ≡ text ∷ texts_of (s ∷ rest)
+  at_text : (text rest : List ℕ) (kind : Kind) → IsPiece kind (length text) (text ++ s ∷ rest) → is_white kind ≡ false
+      → texts_of (text ++ s ∷ rest) ≡ text ∷ texts_of (s ∷ rest)
   at_text [] rest kind p w = let t = p.takes in absurd (omega arith)
   at_text (b ∷ bs) rest kind p w =
       ap (map (λ (t : Lexeme). t.text)) (tokens_step kind (length (b ∷ bs)) b (bs ++ s ∷ rest) p)
@@ -63,7 +65,8 @@ texts_cut (t ∷ ts) all =
     ap (map (λ (t : Lexeme). t.text)) (separator_first 32 space_separates ((t ++ flat_map spaced ts) ++ 10 ∷ []))
     ∙ rw (append_assoc t (flat_map spaced ts) (10 ∷ [])) (here ∙ ap (λ (us : List (List ℕ)). t ∷ us) (texts_cut ts parts.1))
 
-pub printed_cut : (texts : List (List ℕ)) → list_all can_print texts ≡ true → map (λ (t : Lexeme). t.text) (tokens_of (printed_text texts)) ≡ texts
+pub printed_cut : (texts : List (List ℕ)) → list_all can_print texts ≡ true
+    → map (λ (t : Lexeme). t.text) (tokens_of (printed_text texts)) ≡ texts
 unfolding printed_text
 printed_cut [] all = texts_cut [] all
 printed_cut (t ∷ ts) all = ap (map (λ (t : Lexeme). t.text)) (sym (separator_first 32 space_separates ((t ++ flat_map spaced ts) ++ 10 ∷ []))) ∙ texts_cut (t ∷ ts) all

@@ -118,11 +118,13 @@ line_feed_separates = record {
 
 -- ---- what goes on past a separator is no piece
 
-by_test : (P : Option Kind → Type 0) (t : Bool) (x y : Option Kind) → (t ≡ true → P x) → (t ≡ false → P y) → P (cond t x y)
+by_test : (P : Option Kind → Type 0) (t : Bool) (x y : Option Kind) → (t ≡ true → P x) → (t ≡ false → P y)
+    → P (cond t x y)
 by_test P true x y p q = p refl
 by_test P false x y p q = q refl
 
-by_both : (P : Option Kind → Option Kind → Type 0) (t : Bool) (x y x' y' : Option Kind) → (t ≡ true → P x x') → (t ≡ false → P y y') → P (cond t x y) (cond t x' y')
+by_both : (P : Option Kind → Option Kind → Type 0) (t : Bool) (x y x' y' : Option Kind) → (t ≡ true → P x x')
+    → (t ≡ false → P y y') → P (cond t x y) (cond t x' y')
 by_both P true x y x' y' p q = p refl
 by_both P false x y x' y' p q = q refl
 
@@ -147,15 +149,18 @@ comment_unprinted None xs h = cc
 comment_unprinted (Some n) xs h = white_unprinted (n == length xs) h
 
 module _ (s : ℕ) (is : Separates s) where
-  literal_ends : (q : ℕ) (xs more : List ℕ) → is_end (literal_end q xs) xs ≡ true → is_end (literal_end q (xs ++ s ∷ more)) (xs ++ s ∷ more) ≡ false
+  literal_ends : (q : ℕ) (xs more : List ℕ) → is_end (literal_end q xs) xs ≡ true
+      → is_end (literal_end q (xs ++ s ∷ more)) (xs ++ s ∷ more) ≡ false
   literal_ends q xs more h =
       let e = end_before (closes_literal q) (goes_on_in_literal q) (start_of q) xs (s ∷ more) (length xs) (is_end_at (literal_end q xs) xs h) in
       rw e (ne_eqb (length xs) (length (xs ++ s ∷ more)) (λ same. omega (arith, length-append xs (s ∷ more))))
 
-  quoted_ends : (q : ℕ) (xs more : List ℕ) → has_printed_kind (quoted_kind q (literal_end q xs) xs) ≡ true → quoted_kind q (literal_end q (xs ++ s ∷ more)) (xs ++ s ∷ more) ≡ None
+  quoted_ends : (q : ℕ) (xs more : List ℕ) → has_printed_kind (quoted_kind q (literal_end q xs) xs) ≡ true
+      → quoted_kind q (literal_end q (xs ++ s ∷ more)) (xs ++ s ∷ more) ≡ None
   quoted_ends q xs more = at_end (literal_end q xs) refl
     where
-      at_end : (o : Option ℕ) → literal_end q xs ≡ o → has_printed_kind (quoted_kind q o xs) ≡ true → quoted_kind q (literal_end q (xs ++ s ∷ more)) (xs ++ s ∷ more) ≡ None
+      at_end : (o : Option ℕ) → literal_end q xs ≡ o → has_printed_kind (quoted_kind q o xs) ≡ true
+          → quoted_kind q (literal_end q (xs ++ s ∷ more)) (xs ++ s ∷ more) ≡ None
       at_end None e h = absurd (open_unprinted (list_all in_line xs) h)
       at_end (Some n) e h =
           let same : n ≡ length xs = eqb-true n (length xs) (only_printed (n == length xs) (literal_kind q) h) in
@@ -179,7 +184,8 @@ module _ (s : ℕ) (is : Separates s) where
       by_test none (starts_number b s) _ _ (λ _. rw (is.number false) refl) (λ _.
       by_test none (is_quote b) _ _ (λ h. let f : is_printed_kind kinds.OpenLiteral ≡ true = (rw (quote_alone b h) at printed) in absurd cc) (λ _. rw (is.second b more) refl)))))))
 
-  after_more : (b c : ℕ) (cs more : List ℕ) → has_printed_kind (kind_of_more b c cs) ≡ true → kind_of_more b c (cs ++ s ∷ more) ≡ None
+  after_more : (b c : ℕ) (cs more : List ℕ) → has_printed_kind (kind_of_more b c cs) ≡ true
+      → kind_of_more b c (cs ++ s ∷ more) ≡ None
   after_more b c cs more =
       let ends : Option Kind → Option Kind → Type 0 = λ o after. has_printed_kind o ≡ true → after ≡ None in
       by_both ends (is_blank b) _ _ _ _ (λ _ h. refl) (λ _.
@@ -207,7 +213,8 @@ module _ (s : ℕ) (is : Separates s) where
   some_text (b ∷ bs) h = omega arith
 
   -- a text that can be printed is the piece that is cut, where a separator stands after it
-  pub text_is_piece : (text rest : List ℕ) (kind : Kind) → can_print text ≡ true → kind_of text ≡ Some kind → IsPiece kind (length text) (text ++ s ∷ rest)
+  pub text_is_piece : (text rest : List ℕ) (kind : Kind) → can_print text ≡ true → kind_of text ≡ Some kind
+      → IsPiece kind (length text) (text ++ s ∷ rest)
   text_is_piece text rest kind h known = record {
     takes = some_text text h;
     fits = fits;

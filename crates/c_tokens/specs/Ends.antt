@@ -52,7 +52,8 @@ closes_literal q _ b = false
 abbrev pub after_byte : ℕ → Option Inside
 after_byte b = if is_line_feed b then None else if b == 92 then Some inside.Escape else Some inside.Within
 
--- a quote, a question mark, a backslash, a letter of a control character, an octal digit; or so many hexadecimal digits are due
+-- a quote, a question mark, a backslash, a letter of a control character, an octal digit; or so many hexadecimal digits
+-- are due
 abbrev pub after_backslash : ℕ → Option Inside
 after_backslash b =
     if among b (34 ∷ 39 ∷ 63 ∷ 92 ∷ codes "abfnrtv01234567") then Some inside.Within

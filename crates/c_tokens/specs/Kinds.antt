@@ -1,7 +1,7 @@
 -- What a text is as a whole.
 --   kind_of text   the kind of piece that the text is, if it is one: white space or one preprocessing token of C99
--- A byte that is in no other token is a token of its own. So is a comment that is not closed, up to the end of the text, and a literal that is not, up to the end of its line.
--- Letters are those of ASCII.
+-- A byte that is in no other token is a token of its own. So is a comment that is not closed, up to the end of the
+-- text, and a literal that is not, up to the end of its line. Letters are those of ASCII.
 use Rattle.std.specs.Prelude.{ℕ, ◌==◌, List, [], ◌∷◌, length, Bool, false, ◌&&◌, Option, Some, None, if◌then◌else◌}
 use Rattle.std.specs.List.{list_all}
 use Rattle.std.specs.Char.{is_ascii_digit}

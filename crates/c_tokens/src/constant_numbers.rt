@@ -1,7 +1,8 @@
 //! Numbers, read digit by digit. One that is too large is not read further than that.
 
 ghost use Rattle.std.specs.Prelude.{◌≡◌, ◌≤◌, ◌<◌, ◌*◌, ◌+◌, IfSome};
-ghost use Rattle.c_tokens.specs.Worth.{digit_of, digit_in, is_last, unsigned_worth, plain_worth, judge, number_from, zero_worth, number_worth};
+ghost use Rattle.c_tokens.specs.Worth.{digit_of, digit_in, is_last, unsigned_worth, plain_worth, judge, number_from};
+ghost use Rattle.c_tokens.specs.Worth.{zero_worth, number_worth};
 
 use crate::worth::Worth;
 

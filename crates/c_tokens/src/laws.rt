@@ -1,6 +1,7 @@
 //! What the definitions promise, as functions that do nothing when they are called.
 
-ghost use Rattle.c_tokens.specs.Laws.{EachTextIsItsPieces, EachTokenIsOfItsKind, EachTokenStandsInItsText, EachPrintedTextIsCut};
+ghost use Rattle.c_tokens.specs.Laws.{EachTextIsItsPieces, EachTokenIsOfItsKind, EachTokenStandsInItsText};
+ghost use Rattle.c_tokens.specs.Laws.{EachPrintedTextIsCut};
 
 /// The pieces of a text, white space among them, in a row are the text: nothing is left out, and
 /// nothing stands in two pieces.

@@ -1,7 +1,8 @@
 //! Where character constants and string literals end.
 
 ghost use Rattle.std.specs.Prelude.{◌≡◌, ◌≤◌, length, IfSome};
-ghost use Rattle.c_tokens.specs.Ends.{start_of, closes_literal, after_byte, after_backslash, one_digit_less, goes_on_in_literal, literal_end};
+ghost use Rattle.c_tokens.specs.Ends.{start_of, closes_literal, after_byte, after_backslash, one_digit_less};
+ghost use Rattle.c_tokens.specs.Ends.{goes_on_in_literal, literal_end};
 
 use crate::bytes::among;
 

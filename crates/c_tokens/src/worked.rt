@@ -2,7 +2,8 @@
 
 ghost use Rattle.std.specs.Prelude.{◌≡◌, [], ◌∷◌, codes, Some, None, true, false, length};
 ghost use Rattle.std.specs.Prelude.{◌≡◌, [], ◌∷◌, codes};
-ghost use Rattle.c_tokens.specs.declared.token.Kind.TheVariants.{Identifier, Number, Character, StringLiteral, Punctuator, White, OpenComment, OpenLiteral, Other};
+ghost use Rattle.c_tokens.specs.declared.token.Kind.TheVariants.{Identifier, Number, Character, StringLiteral};
+ghost use Rattle.c_tokens.specs.declared.token.Kind.TheVariants.{Punctuator, White, OpenComment, OpenLiteral, Other};
 ghost use Rattle.c_tokens.specs.declared.worth.Worth.TheVariants.{NoConstant, TooLarge, Int, UnsignedInt};
 ghost use Rattle.c_tokens.specs.Keywords.{keywords, is_keyword};
 ghost use Rattle.c_tokens.specs.Kinds.{kind_of};
@@ -71,8 +72,13 @@ pub fn comments_and_literals_end()
 
 /// A token is the longest that begins at its place, and white space is none.
 pub fn tokens_are_the_longest()
-    ensures plus { tokens_of (codes "a+++b") ≡ record { kind = Identifier; text = codes "a"; left = 5 } ∷ record { kind = Punctuator; text = codes "++"; left = 4 } ∷ record { kind = Punctuator; text = codes "+"; left = 2 } ∷ record { kind = Identifier; text = codes "b"; left = 1 } ∷ [] }
-    ensures blanks { tokens_of (9 ∷ 10 ∷ 13 ∷ 32 ∷ 97 ∷ []) ≡ record { kind = Identifier; text = codes "a"; left = 1 } ∷ [] }
+    ensures plus { tokens_of (codes "a+++b")
+        ≡ record { kind = Identifier; text = codes "a"; left = 5 }
+        ∷ record { kind = Punctuator; text = codes "++"; left = 4 }
+        ∷ record { kind = Punctuator; text = codes "+"; left = 2 }
+        ∷ record { kind = Identifier; text = codes "b"; left = 1 } ∷ [] }
+    ensures blanks { tokens_of (9 ∷ 10 ∷ 13 ∷ 32 ∷ 97 ∷ [])
+        ≡ record { kind = Identifier; text = codes "a"; left = 1 } ∷ [] }
 {}
 
 /// There are 37 keywords, and a name that begins as one is none.

@@ -14,7 +14,8 @@ use std::alloc::{AllocError, Global};
 pub fn print(alloc: Global, unit: &CUnit) -> Result<Vec<u8>, AllocError>
     ensures text { IfOk result (λ bytes. bytes.items ≡ printed_text (texts_of (unit_of unit.now))) }
     // The texts of the tokens are read back.
-    ensures again { list_all can_print (texts_of (unit_of unit.now)) ≡ true → IfOk result (λ bytes. map (λ token. token.text) (tokens_of bytes.items) ≡ texts_of (unit_of unit.now)) }
+    ensures again { list_all can_print (texts_of (unit_of unit.now)) ≡ true
+        → IfOk result (λ bytes. map (λ token. token.text) (tokens_of bytes.items) ≡ texts_of (unit_of unit.now)) }
 {
     printed_texts_are_cut();
     let mut out = tokens(alloc, unit.text.as_slice(), unit.tokens.as_slice())?;
@@ -37,7 +38,8 @@ fn tokens(alloc: Global, text: &[u8], spans: &[Span]) -> Result<Vec<u8>, AllocEr
 
 // Each of the ranges after a space.
 fn spaced_tokens(out: &mut Vec<u8>, text: &[u8], spans: &[Span]) -> Result<(), AllocError>
-    ensures { OnOk result (out.new.items ≡ out.old.items ++ flat_map (λ span. spaced (span_text text.now span)) spans.now) }
+    ensures { OnOk result
+        (out.new.items ≡ out.old.items ++ flat_map (λ span. spaced (span_text text.now span)) spans.now) }
 {
     let mut rest = spans;
     while let Some((span, others)) = rest.split_first() {

@@ -29,7 +29,8 @@ module _ (checked : CheckedParts) (graph : GraphParts) (rows : List InputRow) (s
   parts = record { checked = checked; graph = graph; rows = rows }
 
   -- what was found is an analysis of the program
-  pub analysed : {E : Type 0} → IsOutlineOf (plan_of graph) (shape_of o) → (result : Result Cached E) → IfOk result (λ cached. IsFound stepped_by parts_order parts o policy turns (answer_of cached))
+  pub analysed : {E : Type 0} → IsOutlineOf (plan_of graph) (shape_of o) → (result : Result Cached E)
+      → IfOk result (λ cached. IsFound stepped_by parts_order parts o policy turns (answer_of cached))
       → IfOk result (λ cached. (costs : CostTable) → HasCosts (seen checked) graph costs o → IsAnalysis (seen checked) graph rows shape costs policy turns (answer_of cached))
   analysed of (Ok cached) found = λ costs priced. record {
     checked = checked;
@@ -44,13 +45,15 @@ module _ (checked : CheckedParts) (graph : GraphParts) (rows : List InputRow) (s
   }
   analysed of (Err error) found = tt
 
-  lines_sound : SoundForSystemIsSound → (answer : CacheAnswer) → IfTold answer (IsSoundSystem (stepped_by parts).system o)
+  lines_sound : SoundForSystemIsSound → (answer : CacheAnswer)
+      → IfTold answer (IsSoundSystem (stepped_by parts).system o)
       → IfTold answer (λ lines. (costs : CostTable) → HasCosts (seen checked) graph costs o → IsSound (seen checked) graph rows shape costs lines)
   lines_sound law (Told lines) sound = λ costs priced. law parts shape o costs lines keeps is noted priced sound
   lines_sound law (Unbounded scope) sound = tt
 
   -- lines that are sound for the system are sound for the program
-  pub told_sound : {E : Type 0} → SoundForSystemIsSound → (result : Result Cached E) → IfOk result (λ cached. IfTold (answer_of cached) (IsSoundSystem (stepped_by parts).system o))
+  pub told_sound : {E : Type 0} → SoundForSystemIsSound → (result : Result Cached E)
+      → IfOk result (λ cached. IfTold (answer_of cached) (IsSoundSystem (stepped_by parts).system o))
       → IfOk result (λ cached. IfTold (answer_of cached) (λ lines. (costs : CostTable) → HasCosts (seen checked) graph costs o → IsSound (seen checked) graph rows shape costs lines))
   told_sound law (Ok cached) sound = lines_sound law (answer_of cached) sound
   told_sound law (Err error) sound = tt

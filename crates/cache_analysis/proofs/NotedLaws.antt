@@ -29,6 +29,7 @@ module _ (program : NumberedProgram) (graph : GraphParts) (expansion : IsExpansi
       ap (λ (part : ℕ × ℕ). part.1) (get_or-map (node_part program) graph.nodes 0 first_node (0, 0) some ∙ ap (node_part program) expansion.first)
 
   -- so an outline with the notes suits
-  pub code_is_noted : (shape : Shape) (o : Outlined) → IsShape shape → HasCodeNotes program graph shape o → length o.nodes ≡ length graph.nodes → CostsFit o → IsNoted o
+  pub code_is_noted : (shape : Shape) (o : Outlined) → IsShape shape → HasCodeNotes program graph shape o
+      → length o.nodes ≡ length graph.nodes → CostsFit o → IsNoted o
   code_is_noted shape o shaped noted count costs =
       notes_suit shape (parts_of program graph) shaped parts_fit o (count ∙ sym (length-map graph.nodes (node_part program))) costs first_no_size noted

@@ -79,7 +79,8 @@ module _ (o other : Outlined) (alike : AreAlike o other) where
       }
 
 -- the same hits are told
-hits_same : (o other : Outlined) (b : Collected) (stepped : List Bool) (k : ℕ) → o.notes ≡ other.notes → hits_below o b stepped k ≡ hits_below other b stepped k
+hits_same : (o other : Outlined) (b : Collected) (stepped : List Bool) (k : ℕ) → o.notes ≡ other.notes
+    → hits_below o b stepped k ≡ hits_below other b stepped k
 hits_same o other b stepped zero notes = refl
 hits_same o other b stepped (suc k) notes =
     ap (λ (hits : List ℕ). hits ++ hits_at o b stepped k) (hits_same o other b stepped k notes)
@@ -89,7 +90,8 @@ abbrev PoolOf : Type 0
 PoolOf = Pooled StepperParts MemoryParts Counted Collected
 
 -- what is told of a pool along the one is told of it along the other
-told_along : (w : PoolOf) (other : Outlined) → w.outline.notes ≡ other.notes → length w.outline.nodes ≡ length other.nodes → told_lines w ≡ told_lines (along w other)
+told_along : (w : PoolOf) (other : Outlined) → w.outline.notes ≡ other.notes
+    → length w.outline.nodes ≡ length other.nodes → told_lines w ≡ told_lines (along w other)
 told_along w other notes count =
     let made : List ℕ → CacheLines = λ hits. record { hits = hits; bound = w.book.worst } in
     ap (λ (n : ℕ). made (hits_below w.outline w.book w.stepped n)) count ∙ ap made (hits_same w.outline other w.book w.stepped (length other.nodes) notes)
@@ -109,7 +111,8 @@ module _ (parts : StepperParts) (o other : Outlined) (policy : Policy) (turns : 
   twins : AreTwins miss_recording o other
   twins = miss_twins o other alike
 
-  explored_along : (events : List Event) (pool : PoolOf) → IsExploration parts o policy turns events pool → IsExploration parts other policy turns events (along pool other)
+  explored_along : (events : List Event) (pool : PoolOf) → IsExploration parts o policy turns events pool
+      → IsExploration parts other policy turns events (along pool other)
   explored_along events pool explored =
       subst (λ (first : PoolOf). IsPolicyRun stepped_by parts_order miss_order miss_recording policy turns first events (along pool other)) (opened_along stepped_by parts_order miss_order miss_recording parts o other twins)
       (run_along stepped_by parts_order miss_order miss_recording policy turns events (first_pool parts o) pool other twins explored)
@@ -166,7 +169,8 @@ module _ (program : NumberedProgram) (graph : GraphParts) (rows : List InputRow)
       (machines_are_twins program checked other first second graph rows) first_beside run
 
   -- what is found of the parts of a program is found of other parts of it
-  found_of_other : (answer : CacheAnswer) → Finds (parts_with checked) o policy turns answer → Finds (parts_with other) o policy turns answer
+  found_of_other : (answer : CacheAnswer) → Finds (parts_with checked) o policy turns answer
+      → Finds (parts_with other) o policy turns answer
   found_of_other (Told lines) h =
       let also = explored h.pool h.events h.explored in
       record {
@@ -197,7 +201,8 @@ same_scope pool a b (spot, first, is) (place, second, was) =
     is ∙ ap (λ (s : Spot MemoryParts Counted). slice_index (shape_of pool.outline).own s.node) (same_Some spot place (sym first ∙ second)) ∙ sym was
 
 module _ (parts : StepperParts) (o : Outlined) (policy : Policy) (turns : ℕ) where
-  same_pool : (events others : List Event) (pool pool' : PoolOf) → IsExploration parts o policy turns events pool → IsExploration parts o policy turns others pool' → pool ≡ pool'
+  same_pool : (events others : List Event) (pool pool' : PoolOf) → IsExploration parts o policy turns events pool
+      → IsExploration parts o policy turns others pool' → pool ≡ pool'
   same_pool events others pool pool' first second = (run_unique stepped_by parts_order miss_order miss_recording policy turns events others (first_pool parts o) pool pool' first second).1
 
   one_answer : (a b : CacheAnswer) → Finds parts o policy turns a → Finds parts o policy turns b → a ≡ b

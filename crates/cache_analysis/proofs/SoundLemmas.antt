@@ -44,7 +44,8 @@ module _ (program : NumberedProgram) (graph : GraphParts) (shape : Shape) (o : O
   lines_same = λ i n. lines_are shape (parts_of program graph) o noted n i
 
   -- along the outline the accesses are those of the code
-  pub accesses_same : (c : Contents) (trace : List ℕ) → accesses_along o c trace ≡ code_accesses program graph shape c trace
+  pub accesses_same : (c : Contents) (trace : List ℕ)
+      → accesses_along o c trace ≡ code_accesses program graph shape c trace
   accesses_same c trace =
       ap (λ (sets : ℕ). accesses_past sets (ways_of o) (lines_of o) c trace) sets_same
       ∙ ap (λ (ways : ℕ). accesses_past shape.sets ways (lines_of o) c trace) ways_same
@@ -56,7 +57,8 @@ module _ (program : NumberedProgram) (graph : GraphParts) (shape : Shape) (o : O
       subst (λ (sets : ℕ). IsContents sets (ways_of o) c) (sym sets_same) (subst (λ (ways : ℕ). IsContents shape.sets ways c) (sym ways_same) fits)
 
   -- what a run costs with its misses
-  right_for : (costs : CostTable) (lines : CacheLines) (trace : List ℕ) (run : List Node) (c : Contents) → HasCosts program graph costs o → AreNumbersOf graph.nodes trace run
+  right_for : (costs : CostTable) (lines : CacheLines) (trace : List ℕ) (run : List Node) (c : Contents)
+      → HasCosts program graph costs o → AreNumbersOf graph.nodes trace run
       → IsBoundFor o lines trace c → IsRightFor program graph shape costs lines trace run c
   right_for costs lines trace run c priced numbers bounded =
       let accesses = accesses_same c trace in

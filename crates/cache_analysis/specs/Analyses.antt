@@ -23,7 +23,8 @@ use Rattle.cached_runs.specs.CachedRuns.{IsFound}
 use Rattle.cache_analysis.specs.CodeAccesses.{HasCodeNotes}
 
 -- an exploration of the program, by the policy in so many turns, finds this answer
-pub record IsAnalysis (program : NumberedProgram) (graph : GraphParts) (rows : List InputRow) (shape : Shape) (costs : CostTable) (policy : Policy) (turns : ℕ) (answer : CacheAnswer) : Type 0 where
+pub record IsAnalysis (program : NumberedProgram) (graph : GraphParts) (rows : List InputRow) (shape : Shape)
+    (costs : CostTable) (policy : Policy) (turns : ℕ) (answer : CacheAnswer) : Type 0 where
   -- the parts of the program as they are checked, and the outline of its graph with costs and the lines of its nodes
   pub checked : CheckedParts
   pub keeps : IsKept (seen checked)

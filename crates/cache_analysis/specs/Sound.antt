@@ -21,16 +21,20 @@ use Rattle.cached_runs.specs.Answers.{CacheLines}
 use Rattle.cache_analysis.specs.CodeAccesses.{code_accesses}
 
 -- the run costs with the penalties of its misses no more than the bound, and each access at a node that is told hits
-pub record IsRightFor (program : NumberedProgram) (graph : GraphParts) (shape : Shape) (costs : CostTable) (lines : CacheLines) (trace : List ℕ) (run : List Node) (c : Contents) : Type 0 where
+pub record IsRightFor (program : NumberedProgram) (graph : GraphParts) (shape : Shape) (costs : CostTable)
+    (lines : CacheLines) (trace : List ℕ) (run : List Node) (c : Contents) : Type 0 where
   pub bound : cost_of (node_cost program costs) run + shape.penalty * missed_of (code_accesses program graph shape c trace) ≤ lines.bound
-  pub hits : (a : Access) → Contains (code_accesses program graph shape c trace) a → Contains lines.hits a.node → a.hits ≡ true
+  pub hits : (a : Access) → Contains (code_accesses program graph shape c trace) a → Contains lines.hits a.node
+      → a.hits ≡ true
 
 -- the run from the start ends, and so it is of the run for all contents that the cache may have at first
-pub record IsSoundFor (program : NumberedProgram) (graph : GraphParts) (shape : Shape) (costs : CostTable) (lines : CacheLines) (start : Moment) : Type 0 where
+pub record IsSoundFor (program : NumberedProgram) (graph : GraphParts) (shape : Shape) (costs : CostTable)
+    (lines : CacheLines) (start : Moment) : Type 0 where
   pub trace : List ℕ
   pub outcome : Outcome
   pub runs : Runs program graph.nodes start trace outcome
-  pub right : (c : Contents) → IsContents shape.sets shape.ways c → IsRightFor program graph shape costs lines trace runs.run c
+  pub right : (c : Contents) → IsContents shape.sets shape.ways c
+      → IsRightFor program graph shape costs lines trace runs.run c
 
 -- so it is for each start with inputs inside the ranges of the rows
 abbrev pub IsSound : NumberedProgram → GraphParts → List InputRow → Shape → CostTable → CacheLines → Type 0

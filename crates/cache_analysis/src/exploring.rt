@@ -58,9 +58,11 @@ pub fn analyse(
     ensures found { IfOk result (λ cached. (costs : CostTable) → HasCosts (seen checked.now) graph.now costs outline.now
         → IsAnalysis (seen checked.now) graph.now rows.now shape costs policy turns (answer_of cached)) }
 
-    // Whatever the cache had at first, each run of the program ends, costs with the penalties of its misses no more than the
-    // bound, and hits at each node that is told.
-    ensures sound { IfOk result (λ cached. IfTold (answer_of cached) (λ lines. (costs : CostTable) → HasCosts (seen checked.now) graph.now costs outline.now
+    // Whatever the cache had at first, each run of the program ends, costs with the penalties of its misses no more
+    // than the bound, and hits at each node that is told.
+    ensures sound { IfOk result
+        (λ cached. IfTold (answer_of cached)
+        (λ lines. (costs : CostTable) → HasCosts (seen checked.now) graph.now costs outline.now
         → IsSound (seen checked.now) graph.now rows.now shape costs lines)) }
 {
     checked.keeps();
@@ -85,8 +87,10 @@ fn explored(
     requires shape { IsShape shape }
     requires noted { HasCodeNotes (seen stepper.now.checked) stepper.now.graph shape outline.now }
     requires turns { turns ≤ most_turns }
-    ensures found { IfOk result (λ cached. IsFound stepped_by parts_order stepper.now outline.now policy turns (answer_of cached)) }
-    ensures sound { IfOk result (λ cached. IfTold (answer_of cached) (IsSoundSystem (stepped_by stepper.now).system outline.now)) }
+    ensures found { IfOk result
+        (λ cached. IsFound stepped_by parts_order stepper.now outline.now policy turns (answer_of cached)) }
+    ensures sound { IfOk result
+        (λ cached. IfTold (answer_of cached) (IsSoundSystem (stepped_by stepper.now).system outline.now)) }
 {
     stepper.goes_along();
     outline.costs_fit();

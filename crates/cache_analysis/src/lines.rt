@@ -27,7 +27,8 @@ pub fn set_lines(
     requires graph { IsGraph (seen checked.now) graph.now }
     requires few { all_statements (seen checked.now) ≤ most_statements }
     requires shape { IsShape shape }
-    ensures { OnOk result (outline.new ≡ record outline.old { notes = notes_of shape (parts_of (seen checked.now) graph.now) }) }
+    ensures { OnOk result
+        (outline.new ≡ record outline.old { notes = notes_of shape (parts_of (seen checked.now) graph.now) }) }
 {
     checked.keeps();
     graphs_are_expansions();

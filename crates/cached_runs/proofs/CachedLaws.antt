@@ -41,7 +41,8 @@ sum_turned f (x ∷ xs) =
     omega arith
 
 -- a node that is told is not missed
-told_hit : (o : Outlined) (b : Collected) (stepped : List Bool) (k n : ℕ) → Contains (hits_below o b stepped k) n → may_miss b n ≡ false
+told_hit : (o : Outlined) (b : Collected) (stepped : List Bool) (k n : ℕ) → Contains (hits_below o b stepped k) n
+    → may_miss b n ≡ false
 told_hit o b stepped zero n there = no_member n there
 told_hit o b stepped (suc k) n there = ⊎_elim
     (λ (early : Contains (hits_below o b stepped k) n). told_hit o b stepped k n early)
@@ -55,14 +56,17 @@ told_hit o b stepped (suc k) n there = ⊎_elim
         (λ none. no_member n none))
         (λ missed. no_member n (subst (λ (xs : List ℕ). Contains xs n) (is_not missed) late))
       where
-        is : (slice_index_or stepped k false && (has_line o k && not (may_miss b k))) ≡ true → hits_at o b stepped k ≡ k ∷ []
+        is : (slice_index_or stepped k false && (has_line o k && not (may_miss b k))) ≡ true
+            → hits_at o b stepped k ≡ k ∷ []
         is told = rw told refl
 
-        is_not : (slice_index_or stepped k false && (has_line o k && not (may_miss b k))) ≡ false → hits_at o b stepped k ≡ []
+        is_not : (slice_index_or stepped k false && (has_line o k && not (may_miss b k))) ≡ false
+            → hits_at o b stepped k ≡ []
         is_not missed = rw missed refl
 
 -- what a book bounds, in the order of the run
-bound_for : (o : Outlined) (b : Collected) (stepped : List Bool) (past trace : List ℕ) (c : Contents) → reverse past ≡ trace → IsBounded o b past c
+bound_for : (o : Outlined) (b : Collected) (stepped : List Bool) (past trace : List ℕ) (c : Contents)
+    → reverse past ≡ trace → IsBounded o b past c
     → IsBoundFor o (record { hits = hits_below o b stepped (length o.nodes); bound = b.worst }) trace c
 bound_for o b stepped past trace c turned bounded = record {
   bound =
@@ -81,7 +85,9 @@ bound_for o b stepped past trace c turned bounded = record {
     same = ap (λ (nodes : List ℕ). accesses_along o c nodes) (sym turned) ∙ accesses_turned o c past
 
 -- where no place is left, the lines are sound
-pub sound_lines : {S T C : Type 0} (machine : S → Machine T C) (w : Pooled S T Counted Collected) → EachIsHandled machine miss_recording w → w.spots ≡ [] → IsSound (machine w.stepper).system w.outline (told_lines w)
+pub sound_lines : {S T C : Type 0} (machine : S → Machine T C) (w : Pooled S T Counted Collected)
+    → EachIsHandled machine miss_recording w → w.spots ≡ []
+    → IsSound (machine w.stepper).system w.outline (told_lines w)
 sound_lines machine w handled empty =
     let each = each_is_summed machine miss_recording w handled empty in
     record {

@@ -56,12 +56,14 @@ IsSoundFor o lines trace = (c : Contents) → IsContents (sets_of o) (ways_of o)
 -- each run ends, and so it is for each run that ends
 pub record IsSound {C : Type 0} (system : System C) (o : Outlined) (lines : CacheLines) : Type 0 where
   pub ends : (run : ℕ → Option (ℕ × C)) → IsRun system run → RunEnds system run
-  pub right : (c : C) (trace : List ℕ) (fault : Option RunFault) → system.starts c → Passes system 0 c trace fault → IsSoundFor o lines trace
+  pub right : (c : C) (trace : List ℕ) (fault : Option RunFault) → system.starts c → Passes system 0 c trace fault
+      → IsSoundFor o lines trace
 
 -- ---- what the policy finds
 
 -- no place is left in the end, and the lines tell what was collected
-pub record IsClosed {S T C : Type 0} (machine : S → Machine T C) (states : Order T) (stepper : S) (o : Outlined) (policy : Policy) (turns : ℕ) (lines : CacheLines) : Type 0 where
+pub record IsClosed {S T C : Type 0} (machine : S → Machine T C) (states : Order T) (stepper : S) (o : Outlined)
+    (policy : Policy) (turns : ℕ) (lines : CacheLines) : Type 0 where
   pub events : List Event
   pub pool : Pooled S T Counted Collected
   pub explored : IsPolicyRun machine states miss_order miss_recording policy turns (opened machine miss_recording stepper o) events pool
@@ -69,7 +71,8 @@ pub record IsClosed {S T C : Type 0} (machine : S → Machine T C) (states : Ord
   pub told : lines ≡ told_lines pool
 
 -- the turns are used up, and the first place that is left stands in the scope
-pub record IsLeft {S T C : Type 0} (machine : S → Machine T C) (states : Order T) (stepper : S) (o : Outlined) (policy : Policy) (turns scope : ℕ) : Type 0 where
+pub record IsLeft {S T C : Type 0} (machine : S → Machine T C) (states : Order T) (stepper : S) (o : Outlined)
+    (policy : Policy) (turns scope : ℕ) : Type 0 where
   pub events : List Event
   pub pool : Pooled S T Counted Collected
   pub explored : IsPolicyRun machine states miss_order miss_recording policy turns (opened machine miss_recording stepper o) events pool

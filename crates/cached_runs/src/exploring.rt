@@ -1,6 +1,7 @@
 //! The exploration.
 
-ghost use Rattle.std.specs.Prelude.{◌≡◌, ◌<◌, ◌-◌, ◌^◌, ◌++◌, ◌∷◌, not, ◌&&◌, if◌then◌else◌, [], length, slice_index_or, false, IfOk, OnOk};
+ghost use Rattle.std.specs.Prelude.{◌≡◌, ◌<◌, ◌-◌, ◌^◌, ◌++◌, ◌∷◌, not, ◌&&◌, if◌then◌else◌, [], length};
+ghost use Rattle.std.specs.Prelude.{slice_index_or, false, IfOk, OnOk};
 ghost use Rattle.domain_core.specs.Outlines.{shape_of};
 ghost use Rattle.domain_core.specs.Machines.{IsAlong};
 ghost use Rattle.abstract_exec.specs.Explorations.{IsPool};
@@ -34,7 +35,9 @@ fn always_hits<S: Stepper>(outline: &Outline, pool: &Pool<S, Misses>, node: u32)
     requires outline { pool.now.outline ≡ outline.now }
     requires noted { IsNoted outline.now }
     requires node { node < length outline.now.nodes }
-    ensures { result ≡ (slice_index_or pool.now.stepped node false && (has_line outline.now node && not (may_miss pool.now.book node))) }
+    ensures { result
+        ≡ (slice_index_or pool.now.stepped node false &&
+        (has_line outline.now node && not (may_miss pool.now.book node))) }
 {
     pool.stepped(node) && has_some_line(outline, node) && !pool.book().missed(node)
 }
@@ -58,7 +61,8 @@ fn hits<S: Stepper>(
     requires kept { IsPool S.machine miss_recording pool.now }
     requires outline { pool.now.outline ≡ outline.now }
     requires noted { IsNoted outline.now }
-    ensures { IfOk result (λ hits. hits.items ≡ hits_below outline.now pool.now.book pool.now.stepped (length outline.now.nodes)) }
+    ensures { IfOk result
+        (λ hits. hits.items ≡ hits_below outline.now pool.now.book pool.now.stepped (length outline.now.nodes)) }
 {
     let mut hits = Vec::new(alloc);
     for node in 0..outline.node_count() {
@@ -78,7 +82,8 @@ fn told<S: Stepper>(
     requires outline { pool.now.outline ≡ outline.now }
     requires noted { IsNoted outline.now }
     ensures told { IfOk result (λ lines. lines_of lines ≡ told_lines pool.now) }
-    ensures sound { pool.now.spots ≡ [] → IfOk result (λ lines. IsSound (S.machine pool.now.stepper).system outline.now (lines_of lines)) }
+    ensures sound { pool.now.spots ≡ []
+        → IfOk result (λ lines. IsSound (S.machine pool.now.stepper).system outline.now (lines_of lines)) }
 {
     Ok(CachedLines {
         hits: hits(alloc, outline, pool)?,
@@ -100,11 +105,13 @@ pub fn cached<S: Stepper>(
     requires turns { turns < 2 ^ 32 - 1 }
 
     // What the policy finds over the pools of the stepper's machine.
-    ensures found { IfOk result (λ cached. IsFound S.machine S.State.order stepper.now outline.now policy turns (answer_of cached)) }
+    ensures found { IfOk result
+        (λ cached. IsFound S.machine S.State.order stepper.now outline.now policy turns (answer_of cached)) }
 
     // Whatever the cache has at first, each run of the stepper's system ends, costs with its misses no more than the
     // bound, and hits at each node that is told.
-    ensures sound { IfOk result (λ cached. IfTold (answer_of cached) (IsSound (S.machine stepper.now).system outline.now)) }
+    ensures sound { IfOk result
+        (λ cached. IfTold (answer_of cached) (IsSound (S.machine stepper.now).system outline.now)) }
 {
     let mut pool: Pool<S, Misses> = Pool::start(alloc, stepper, outline)?;
     match pool.explore(alloc, policy, turns)? {

@@ -16,7 +16,8 @@ use Rattle.code_layout.specs.Layouts.{statements_in, statements_of, block_statem
 use Rattle.code_layout.specs.LayoutLaws.{no_function, blocks_of}
 
 -- one member more
-pub summed_more : {X : Type 0} (f : X → ℕ) (xs : List X) (i total count : ℕ) (x : X) → slice_get xs i ≡ Some x → count ≡ f x → total ≡ sum_by f (take i xs) → total + count ≡ sum_by f (take (i + 1) xs)
+pub summed_more : {X : Type 0} (f : X → ℕ) (xs : List X) (i total count : ℕ) (x : X) → slice_get xs i ≡ Some x
+    → count ≡ f x → total ≡ sum_by f (take i xs) → total + count ≡ sum_by f (take (i + 1) xs)
 summed_more f xs i total count x at count_is before =
     ap (λ (k : ℕ). k + count) before ∙ ap (λ (k : ℕ). sum_by f (take i xs) + k) (count_is ∙ ap f (sym (get_or_from_slice_get xs i x x at))) ∙ sym (sum_by_more f xs i x (slice_get_within xs i x at))
 
@@ -26,11 +27,14 @@ function_sum program f low =
     ap (λ (bs : List NumberedBlock). sum_by statements_in bs) (take_all (length (blocks_at program f)) (blocks_at program f) (omega arith) ∙ blocks_of program f low)
 
 -- the statements of a block that is there
-pub own_statements : (program : NumberedProgram) (f b count : ℕ) (block : NumberedBlock) → slice_get (blocks_at program f) b ≡ Some block → count ≡ statements_in block → count ≡ block_statements program f b
+pub own_statements : (program : NumberedProgram) (f b count : ℕ) (block : NumberedBlock)
+    → slice_get (blocks_at program f) b ≡ Some block → count ≡ statements_in block
+    → count ≡ block_statements program f b
 own_statements program f b count block at is = is ∙ sym (ap (λ (found : Option NumberedBlock). option_map_or statements_in found 0) at)
 
 -- one node more
-pub parts_more : (program : NumberedProgram) (graph : GraphParts) (n : ℕ) (part : ℕ × ℕ) → n < length graph.nodes → part ≡ node_part program (get_or graph.nodes n first_node)
+pub parts_more : (program : NumberedProgram) (graph : GraphParts) (n : ℕ) (part : ℕ × ℕ) → n < length graph.nodes
+    → part ≡ node_part program (get_or graph.nodes n first_node)
     → map (node_part program) (take n graph.nodes) ++ part ∷ [] ≡ map (node_part program) (take (n + 1) graph.nodes)
 parts_more program graph n part low is =
     sym (ap (map (node_part program)) (take_more graph.nodes n first_node low) ∙ map-append (node_part program) (take n graph.nodes) (get_or graph.nodes n first_node ∷ [])

@@ -25,7 +25,8 @@ abbrev pub no_block : NumberedBlock
 no_block = record { statements = []; ending = Return None }
 
 -- the blocks of a function that is there
-pub blocks_of : (program : NumberedProgram) (f : ℕ) → f < length program.funcs → blocks_at program f ≡ (get_or program.funcs f no_function).blocks
+pub blocks_of : (program : NumberedProgram) (f : ℕ) → f < length program.funcs
+    → blocks_at program f ≡ (get_or program.funcs f no_function).blocks
 blocks_of program f low = ap (λ (found : Option NumberedFunction). option_map_or (λ (g : NumberedFunction). g.blocks) found []) (slice_get-get_or program.funcs f no_function low)
 
 -- the statements before block b of function f, and those of the block, are among all
@@ -43,15 +44,18 @@ lies_within program f b low there =
 abbrev pub IsLow : ℕ × ℕ → Type 0
 IsLow part = (part.0 ≤ 262144) × (part.1 ≤ 262144)
 
-place_low : (program : NumberedProgram) (f : ℕ) (block : Option ℕ) → all_statements program ≤ most_statements → f < length program.funcs → HasBlock program f block → IsLow (place_part program f block)
+place_low : (program : NumberedProgram) (f : ℕ) (block : Option ℕ) → all_statements program ≤ most_statements
+    → f < length program.funcs → HasBlock program f block → IsLow (place_part program f block)
 place_low program f None few low there = (omega arith, omega arith)
 place_low program f (Some b) few low there = let within = lies_within program f b low there in (omega (arith, within, few), omega (arith, within, few))
 
 -- what holds of each node holds of what is made of them
-all_made : (made : Node → ℕ × ℕ) (nodes : List Node) → ((n : ℕ) → n < length nodes → IsLow (made (get_or nodes n first_node))) → All IsLow (map made nodes)
+all_made : (made : Node → ℕ × ℕ) (nodes : List Node)
+    → ((n : ℕ) → n < length nodes → IsLow (made (get_or nodes n first_node))) → All IsLow (map made nodes)
 all_made made [] each = All-nil IsLow
 all_made made (node ∷ nodes) each = All-cons IsLow (made node) (map made nodes) (each 0 (omega arith)) (all_made made nodes (λ n low. each (suc n) (omega (arith, low))))
 
 -- so are those of each node of a program that is laid out
-pub parts_low : (program : NumberedProgram) (graph : GraphParts) → IsExpansion program graph → all_statements program ≤ most_statements → All IsLow (parts_of program graph)
+pub parts_low : (program : NumberedProgram) (graph : GraphParts) → IsExpansion program graph
+    → all_statements program ≤ most_statements → All IsLow (parts_of program graph)
 parts_low program graph expansion few = all_made (node_part program) graph.nodes (λ n low. let placed = (expansion.places n low).placed in place_low program (function_at program (get_or graph.nodes n first_node).path) (get_or graph.nodes n first_node).block few placed.function placed.block)

@@ -1,5 +1,5 @@
--- Where the code of a program lies in memory: the blocks of all functions one after the other from address 0, functions in the order of the
--- text and blocks by number, 4 bytes for each statement.
+-- Where the code of a program lies in memory: the blocks of all functions one after the other from address 0, functions
+-- in the order of the text and blocks by number, 4 bytes for each statement.
 --   ending_statements ending     1 where a statement ends the block, and 0 where the block goes on to the next without one
 --   statements_in block          the statements of a block, the one that ends it among them
 --   statements_of function       the statements of a function's blocks

@@ -5,7 +5,8 @@ ghost use Rattle.alf_check.specs.CheckedPrograms.{blocks_at, seen};
 ghost use Rattle.flow_graph.specs.Numbering.{IsGraph};
 ghost use Rattle.flow_graph.specs.Expansions.{node_number};
 ghost use Rattle.flow_graph.specs.Paths.{HasBlock};
-ghost use Rattle.code_layout.specs.Layouts.{all_statements, most_statements, bytes_of, block_part, place_part, node_part, parts_of};
+ghost use Rattle.code_layout.specs.Layouts.{all_statements, most_statements, bytes_of, block_part, place_part};
+ghost use Rattle.code_layout.specs.Layouts.{node_part, parts_of};
 
 use crate::statements::{statements_before_block, statements_before_function, statements_in};
 use alf_check::Checked;

@@ -31,7 +31,9 @@ module _ (bytes : List ℕ) (one : HasOneMeaning bytes) where
       only (Err o) (d, k, e) = departs_not d report k h
 
   -- the line of the departure that was met is the only meaning
-  pub departed_only : (o : Option Departure) (text : List ℕ) → IsSomeAnd o (λ departure. text ≡ report_fault_line departure) → IfSome o (λ departure. Means bytes (Err departure))
+  pub departed_only : (o : Option Departure) (text : List ℕ)
+      → IsSomeAnd o (λ departure. text ≡ report_fault_line departure)
+      → IfSome o (λ departure. Means bytes (Err departure))
       → IsOnly (ReportSpelled bytes) (Err (refused text))
   departed_only None text line h = absurd line
   departed_only (Some d) text line h = record { means = (d, h, ap refused line); only = only }

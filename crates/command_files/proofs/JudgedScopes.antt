@@ -18,7 +18,8 @@ CrossingsRefute = (edges : List (ℕ × ℕ)) (a b c : List ℕ) → IsCrossing 
 
 module _ (graph : GraphParts) where
   -- an outline of the graph gives its scopes
-  scoped_of_outline : (o : Outlined) → IsOutlineOf (plan_of graph) (shape_of o) → IsReducible (IsEdge graph.edges) → IsScoped graph (scopes_seen o)
+  scoped_of_outline : (o : Outlined) → IsOutlineOf (plan_of graph) (shape_of o) → IsReducible (IsEdge graph.edges)
+      → IsScoped graph (scopes_seen o)
   scoped_of_outline o is reducible =
       let shape = shape_of o in
       let same : shape ≡ record { edges = graph.edges; own = shape.own; ranks = shape.ranks; scopes = shape.scopes } =
@@ -30,7 +31,8 @@ module _ (graph : GraphParts) where
       let same = one graph _ _ has h.outline k.outline in
       λ i. record { own = same.own i; scopes = same.scopes i }
 
-  pub scoped_only : HasOneOutline → CrossingsRefute → HasProgram graph → (o : Outlined) → IsOutlineOf (plan_of graph) (shape_of o) → IsReducible (IsEdge graph.edges)
+  pub scoped_only : HasOneOutline → CrossingsRefute → HasProgram graph → (o : Outlined)
+      → IsOutlineOf (plan_of graph) (shape_of o) → IsReducible (IsEdge graph.edges)
       → IsOnly (ScopesMean graph) (Ok (scopes_seen o))
   scoped_only one refute has o is reducible = record { means = scoped_of_outline o is reducible; only = only }
     where

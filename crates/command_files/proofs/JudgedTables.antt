@@ -14,11 +14,13 @@ use Rattle.answer_texts.specs.TableLines.{table_line}
 use Rattle.command_files.specs.Tables.{InputsMean, CostsMean}
 
 -- a fault with a line is no want of memory
-pub not_memory : (role : List ℕ) (fault : TableFault) (text : List ℕ) → table_line role fault ≡ Some text → fault ≢ faults.Memory
+pub not_memory : (role : List ℕ) (fault : TableFault) (text : List ℕ) → table_line role fault ≡ Some text
+    → fault ≢ faults.Memory
 not_memory role fault text line e = let none : Some text ≡ None = sym line ∙ ap (table_line role) e in cc
 
 -- two lines of one fault
-pub lines_one : (role : List ℕ) (fault other : TableFault) (text : List ℕ) (o : Outcome) → fault ≡ other → table_line role fault ≡ Some text → table_line role other ≡ Some o.text → o.cause ≡ Source
+pub lines_one : (role : List ℕ) (fault other : TableFault) (text : List ℕ) (o : Outcome) → fault ≡ other
+    → table_line role fault ≡ Some text → table_line role other ≡ Some o.text → o.cause ≡ Source
     → refused text ≡ o
 lines_one role fault other text o same line told cause =
     let both : Some text ≡ Some o.text = sym line ∙ ap (table_line role) same ∙ told in
@@ -42,7 +44,8 @@ module _ (bytes : List ℕ) (program : NumberedProgram) (one : IsOne (AnswersInp
       only (Ok other) k = rows_one rows other h k
       only (Err o) k = rows_not rows k.fault h k.refuses
 
-  pub inputs_refused_only : (fault : TableFault) (text : List ℕ) → RefusesInputs bytes program fault → table_line (codes "inputs") fault ≡ Some text
+  pub inputs_refused_only : (fault : TableFault) (text : List ℕ) → RefusesInputs bytes program fault
+      → table_line (codes "inputs") fault ≡ Some text
       → IsOnly (InputsMean bytes program) (Err (refused text))
   inputs_refused_only fault text h line = record { means = record { fault = fault; refuses = h; line = line; cause = refl }; only = only }
     where
@@ -67,7 +70,8 @@ module _ (bytes : List ℕ) (program : NumberedProgram) (one : IsOne (AnswersCos
       only (Ok other) k = costs_one costs other h k
       only (Err o) k = costs_not costs k.fault h k.refuses
 
-  pub costs_refused_only : (fault : TableFault) (text : List ℕ) → RefusesCosts bytes program fault → table_line (codes "costs") fault ≡ Some text
+  pub costs_refused_only : (fault : TableFault) (text : List ℕ) → RefusesCosts bytes program fault
+      → table_line (codes "costs") fault ≡ Some text
       → IsOnly (CostsMean bytes program) (Err (refused text))
   costs_refused_only fault text h line = record { means = record { fault = fault; refuses = h; line = line; cause = refl }; only = only }
     where

@@ -28,7 +28,8 @@ module _ (bytes : List ℕ) (one : IsOne (AnswersTasks bytes)) where
       only (Ok other) k = tasks_one tasks other h k
       only (Err o) k = tasks_not tasks k.fault h k.refuses
 
-  pub tasks_refused_only : (fault : TableFault) (text : List ℕ) → RefusesTasks bytes fault → table_line (codes "tasks") fault ≡ Some text
+  pub tasks_refused_only : (fault : TableFault) (text : List ℕ) → RefusesTasks bytes fault
+      → table_line (codes "tasks") fault ≡ Some text
       → IsOnly (TasksMean bytes) (Err (refused text))
   tasks_refused_only fault text h line = record { means = record { fault = fault; refuses = h; line = line; cause = refl }; only = only }
     where

@@ -27,7 +27,8 @@ module _ (bytes : List ℕ) (n : ℕ) (one : IsOne (AnswersValues bytes n)) wher
       only (Ok other) k = values_one values other h k
       only (Err o) k = values_not values k.fault h k.refuses
 
-  pub values_refused_only : (fault : TableFault) (text : List ℕ) → RefusesValues bytes n fault → table_line (codes "values") fault ≡ Some text
+  pub values_refused_only : (fault : TableFault) (text : List ℕ) → RefusesValues bytes n fault
+      → table_line (codes "values") fault ≡ Some text
       → IsOnly (ValuesMean bytes n) (Err (refused text))
   values_refused_only fault text h line = record { means = record { fault = fault; refuses = h; line = line; cause = refl }; only = only }
     where

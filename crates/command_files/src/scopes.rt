@@ -34,10 +34,13 @@ pub fn scoped_in<F: Shelf>(
     root: &str,
     shelf: &mut F,
 ) -> Result<ScopedProgram, Stop>
-    ensures work { Works (scoped_in (file_meant program.entry) root.now) scoped_of (F.state shelf.old) result (F.state shelf.new) }
+    ensures work { Works (scoped_in (file_meant program.entry) root.now) scoped_of (F.state shelf.old) result
+        (F.state shelf.new) }
     ensures graph { IfOk result (λ program. IsGraph (seen program.expanded.checked) program.expanded.graph) }
     ensures outline { IfOk result (λ program. IsOutlined program.expanded.graph program.outline) }
-    ensures told { IfOk result (λ scoped. IfSome (F.state shelf.old).files (λ files. IsToldProgram (file_meant program.entry) root.now files (scoped_of scoped).expanded.program)) }
+    ensures told { IfOk result
+        (λ scoped. IfSome (F.state shelf.old).files
+        (λ files. IsToldProgram (file_meant program.entry) root.now files (scoped_of scoped).expanded.program)) }
 {
     let expanded = expanded_in(alloc, program, root, shelf)?;
     let outline = scopes_of(alloc, &expanded.graph)?;

@@ -4,7 +4,8 @@ ghost use Rattle.std.specs.Prelude.{IfOk, option_map};
 ghost use Rattle.alf_check.specs.CheckedPrograms.{seen};
 ghost use Rattle.alf_check.specs.Inputs.{KeepInputs};
 ghost use Rattle.command_plans.specs.Works.{Works, Judges};
-ghost use Rattle.command_files.specs.Tables.{InputsMean, inputs_told, inputs_in, CostsMean, costs_told, costs_in, tables_in};
+ghost use Rattle.command_files.specs.Tables.{InputsMean, inputs_told, inputs_in, CostsMean, costs_told, costs_in};
+ghost use Rattle.command_files.specs.Tables.{tables_in};
 ghost use Rattle.command_files.specs.Seen.{tables_of};
 
 use alf_check::{Checked, InputRow};
@@ -31,7 +32,9 @@ pub fn tables_in<F: Shelf>(
     costs: Option<&str>,
     shelf: &mut F,
 ) -> Result<Tables, Stop>
-    ensures work { Works (tables_in (seen checked.now) (option_map (λ name. name.now) inputs.entry) (option_map (λ name. name.now) costs.entry)) tables_of (F.state shelf.old) result (F.state shelf.new) }
+    ensures work { Works
+        (tables_in (seen checked.now) (option_map (λ name. name.now) inputs.entry)
+        (option_map (λ name. name.now) costs.entry)) tables_of (F.state shelf.old) result (F.state shelf.new) }
     ensures keep { IfOk result (λ tables. KeepInputs (seen checked.now) tables.rows.items) }
 {
     let rows = inputs_in(alloc, checked, inputs, shelf)?;
@@ -46,7 +49,8 @@ fn inputs_in<F: Shelf>(
     file: Option<&str>,
     shelf: &mut F,
 ) -> Result<Vec<InputRow>, Stop>
-    ensures work { Works (inputs_in (seen checked.now) (option_map (λ name. name.now) file.entry)) (λ rows. rows.items) (F.state shelf.old) result (F.state shelf.new) }
+    ensures work { Works (inputs_in (seen checked.now) (option_map (λ name. name.now) file.entry)) (λ rows. rows.items)
+        (F.state shelf.old) result (F.state shelf.new) }
     ensures keep { IfOk result (λ rows. KeepInputs (seen checked.now) rows.items) }
 {
     match file {
@@ -63,7 +67,8 @@ fn inputs_told<F: Shelf>(
     file: &str,
     shelf: &mut F,
 ) -> Result<Vec<InputRow>, Stop>
-    ensures work { Works (inputs_told (seen checked.now) file.now) (λ rows. rows.items) (F.state shelf.old) result (F.state shelf.new) }
+    ensures work { Works (inputs_told (seen checked.now) file.now) (λ rows. rows.items) (F.state shelf.old) result
+        (F.state shelf.new) }
     ensures keep { IfOk result (λ rows. KeepInputs (seen checked.now) rows.items) }
 {
     let bytes = read_file(
@@ -99,7 +104,8 @@ fn costs_in<F: Shelf>(
     file: Option<&str>,
     shelf: &mut F,
 ) -> Result<Costs, Stop>
-    ensures { Works (costs_in (seen checked.now) (option_map (λ name. name.now) file.entry)) (λ costs. costs) (F.state shelf.old) result (F.state shelf.new) }
+    ensures { Works (costs_in (seen checked.now) (option_map (λ name. name.now) file.entry)) (λ costs. costs)
+        (F.state shelf.old) result (F.state shelf.new) }
 {
     match file {
         None => Ok(Costs::ones(alloc)),
@@ -115,7 +121,8 @@ fn costs_told<F: Shelf>(
     file: &str,
     shelf: &mut F,
 ) -> Result<Costs, Stop>
-    ensures { Works (costs_told (seen checked.now) file.now) (λ costs. costs) (F.state shelf.old) result (F.state shelf.new) }
+    ensures { Works (costs_told (seen checked.now) file.now) (λ costs. costs) (F.state shelf.old) result
+        (F.state shelf.new) }
 {
     let bytes = read_file(
         alloc,

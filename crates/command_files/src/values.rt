@@ -19,7 +19,8 @@ pub fn values_in<F: Shelf>(
     file: Option<&str>,
     shelf: &mut F,
 ) -> Result<Vec<i64>, Stop>
-    ensures work { Works (values_in (length rows.now) (option_map (λ name. name.now) file.entry)) (λ values. values.items)
+    ensures work { Works (values_in (length rows.now) (option_map (λ name. name.now) file.entry))
+        (λ values. values.items)
         (F.state shelf.old) result (F.state shelf.new) }
     ensures one_each { IfOk result (λ values. length values.items ≡ length rows.now) }
 {

@@ -12,18 +12,21 @@ use Rattle.command_plans.specs.Outcome.{Cause, Usage, Source, Example, Unbounded
 use Rattle.command_plans.specs.Log.{Log, log_with, log_after, GrewAlike}
 use Rattle.command_plans.specs.Roles.{unread}
 
--- `Gives told before a after`: over these files, where they are told, the value is a, and the log goes from `before` to `after`.
--- `Stops told before outcome after`: the work stops with this outcome.
+-- `Gives told before a after`: over these files, where they are told, the value is a, and the log goes from `before` to
+-- `after`. `Stops told before outcome after`: the work stops with this outcome.
 pub record Steps (A : Type 0) : Type 1 where
   pub Gives : Option Files → Log → A → Log → Type 0
   pub Stops : Option Files → Log → Outcome → Log → Type 0
 
--- whatever was read before, told files have one value, or outcomes that are alike, and the same names are read, but for failed reads
+-- whatever was read before, told files have one value, or outcomes that are alike, and the same names are read, but for
+-- failed reads
 pub record IsOne {A : Type 0} (w : Steps A) : Type 0 where
-  pub gives : (files : Files) (p q : Log) (a b : A) (m n : Log) → w.Gives (Some files) p a m → w.Gives (Some files) q b n → (a ≡ b) × GrewAlike p m q n
+  pub gives : (files : Files) (p q : Log) (a b : A) (m n : Log) → w.Gives (Some files) p a m
+      → w.Gives (Some files) q b n → (a ≡ b) × GrewAlike p m q n
   pub stops : (files : Files) (p q : Log) (x y : Outcome) (m n : Log) → IsOfFiles x → IsOfFiles y
       → w.Stops (Some files) p x m → w.Stops (Some files) q y n → AreAlike x y × GrewAlike p m q n
-  pub apart : (files : Files) (p q : Log) (a : A) (x : Outcome) (m n : Log) → IsOfFiles x → w.Gives (Some files) p a m → w.Stops (Some files) q x n → ⊥
+  pub apart : (files : Files) (p q : Log) (a : A) (x : Outcome) (m n : Log) → IsOfFiles x → w.Gives (Some files) p a m
+      → w.Stops (Some files) q x n → ⊥
 
 pub record Work (A : Type 0) : Type 1 where
   pub steps : Steps A
@@ -111,7 +114,8 @@ module _ (role : Role) (file : List ℕ) (limit : ℕ) (line : List ℕ) where
   failed_not x r e = let f : Some file ≡ None = sym (ap (λ (o : Outcome). unread_of o.cause) e) ∙ r in cc
 
   -- a file is not both within the limit and too long
-  long_not : (held : Option (List ℕ)) (bytes : List ℕ) → held ≡ Some bytes → length bytes ≤ limit → IsSomeAnd held (λ bytes. limit < length bytes) → ⊥
+  long_not : (held : Option (List ℕ)) (bytes : List ℕ) → held ≡ Some bytes → length bytes ≤ limit
+      → IsSomeAnd held (λ bytes. limit < length bytes) → ⊥
   long_not None bytes e le h = h
   long_not (Some other) bytes e le h = let f : other ≡ bytes = some_is e in omega (arith, ap (λ (l : List ℕ). length l) f)
 
@@ -122,7 +126,8 @@ module _ (role : Role) (file : List ℕ) (limit : ℕ) (line : List ℕ) where
     apart = λ files p q a x m n r g h. not_both files a x r g.1 g.2 h.1;
   }
     where
-      both : {P Q : Type 0} (x y : Outcome) → IsOfFiles x → IsOfFiles y → (x ≡ unread role file) ⊎ ((x ≡ refused line) × P)
+      both : {P Q : Type 0} (x y : Outcome) → IsOfFiles x → IsOfFiles y
+          → (x ≡ unread role file) ⊎ ((x ≡ refused line) × P)
           → (y ≡ unread role file) ⊎ ((y ≡ refused line) × Q) → x ≡ y
       both x y r s (inl e) h = absurd (failed_not x r e)
       both x y r s (inr g) (inl e) = absurd (failed_not y s e)
@@ -155,7 +160,8 @@ stop_one o = record {
 }
 
 module _ {A B : Type 0} {w : Steps A} {k : A → Steps B} (hw : IsOne w) (hk : (a : A) → IsOne (k a)) where
-  then_gives : (files : Files) (p q : Log) (x y : B) (m n : Log) → (then_steps w k).Gives (Some files) p x m → (then_steps w k).Gives (Some files) q y n
+  then_gives : (files : Files) (p q : Log) (x y : B) (m n : Log) → (then_steps w k).Gives (Some files) p x m
+      → (then_steps w k).Gives (Some files) q y n
       → (x ≡ y) × GrewAlike p m q n
   then_gives files p q x y m n (a, l, g, g') (b, o, h, h') =
       let first = hw.gives files p q a b l o g h in

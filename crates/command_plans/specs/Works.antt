@@ -23,7 +23,8 @@ Ends w view before (Err (stops.Told why text)) after =
     w.steps.Stops before.files (log_of before) (record { cause = cause_of why; text = text.items }) (log_of after) × Tells (unread_of (cause_of why)) before after
 Ends w view before (Err stops.Memory) after = Unit {0}
 
-pub record Works {A X : Type 0} (w : Work A) (view : X → A) (before : ShelfState) (result : Result X Stop) (after : ShelfState) : Type 0 where
+pub record Works {A X : Type 0} (w : Work A) (view : X → A) (before : ShelfState) (result : Result X Stop)
+    (after : ShelfState) : Type 0 where
   pub ends : Ends w view before result after
   pub same : after.files ≡ before.files
   pub later : before.faults ≤ after.faults

@@ -2,7 +2,8 @@
 
 ghost use Rattle.std.specs.Prelude.{◌≡◌, ◌≢◌, ℕ, List, []};
 ghost use Rattle.command_plans.specs.Code.{code_of};
-ghost use Rattle.command_plans.specs.Outcome.{Cause, Outcome, Usage, Source, Example, Unbounded, No, Unread, Finished, status_of, ending_status, AreAlike};
+ghost use Rattle.command_plans.specs.Outcome.{Cause, Outcome, Usage, Source, Example, Unbounded, No, Unread, Finished};
+ghost use Rattle.command_plans.specs.Outcome.{status_of, ending_status, AreAlike};
 
 /// Each way in which work ends has its exit code; one example of several is told as any refusal is.
 pub fn each_ending_has_its_code()

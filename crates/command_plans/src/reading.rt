@@ -60,7 +60,8 @@ pub fn read_file<F: Shelf>(
     limit: u64,
     line: &str,
 ) -> Result<Vec<u8>, Stop>
-    ensures { Works (reads role name.now limit line.now) (λ bytes. bytes.items) (F.state shelf.old) result (F.state shelf.new) }
+    ensures { Works (reads role name.now limit line.now) (λ bytes. bytes.items) (F.state shelf.old) result
+        (F.state shelf.new) }
 {
     match shelf.read(alloc, name, limit) {
         Ok(bytes) => Ok(bytes),

@@ -27,7 +27,10 @@ pub fn put_checked(
 ) -> Result<u64, AllocError>
     requires words { (unit_of code.table.now).words ≡ scopes.now.words }
     requires few { next + laws.condition_labels (expression_of condition.now) < 2 ^ 64 }
-    ensures items { OnOk result (Makes items.old.items items.new.items (λ rest. laws.condition_items (within_of code.entry) scopes.now.scopes (expression_of condition.now) next (laws.label (within_of code.entry) held) (laws.label (within_of code.entry) failed)
+    ensures items { OnOk result
+        (Makes items.old.items items.new.items
+        (λ rest. laws.condition_items (within_of code.entry) scopes.now.scopes (expression_of condition.now) next
+        (laws.label (within_of code.entry) held) (laws.label (within_of code.entry) failed)
         (laws.label_item (within_of code.entry) held ∷ rest))) }
     ensures labels { IfOk result (λ after. after ≡ next + laws.condition_labels (expression_of condition.now)) }
 {
@@ -59,7 +62,10 @@ pub fn begin_if(
     requires words { (unit_of code.table.now).words ≡ scopes.now.words }
     requires own { 2 ≤ own }
     requires few { own + labels + laws.condition_labels (expression_of condition.now) < 2 ^ 64 }
-    ensures items { OnOk result (Makes items.old.items items.new.items (λ rest. laws.condition_items (within_of code.entry) scopes.now.scopes (expression_of condition.now) (own + labels) (laws.label (within_of code.entry) labels) (laws.label (within_of code.entry) (1 + labels))
+    ensures items { OnOk result
+        (Makes items.old.items items.new.items
+        (λ rest. laws.condition_items (within_of code.entry) scopes.now.scopes (expression_of condition.now)
+        (own + labels) (laws.label (within_of code.entry) labels) (laws.label (within_of code.entry) (1 + labels))
         (laws.label_item (within_of code.entry) labels ∷ rest))) }
     ensures labels { IfOk result (λ after. after ≡ own + labels + laws.condition_labels (expression_of condition.now)) }
 {
@@ -72,7 +78,10 @@ pub fn begin_if(
 /// Puts what stands after an `if` without an `else`, whose labels are numbered from `labels` on.
 pub fn end_if(code: Code<'_, '_>, items: &mut Vec<Item>, labels: u64) -> Result<(), AllocError>
     requires { 1 + labels < 2 ^ 64 }
-    ensures { OnOk result (Makes items.old.items items.new.items (λ rest. laws.jump (within_of code.entry) (1 + labels) ∷ laws.label_item (within_of code.entry) (1 + labels) ∷ rest)) }
+    ensures { OnOk result
+        (Makes items.old.items items.new.items
+        (λ rest. laws.jump (within_of code.entry) (1 + labels) ∷ laws.label_item (within_of code.entry) (1 + labels)
+        ∷ rest)) }
 {
     let end = 1 + labels;
     put_jump(code, items, end)?;
@@ -83,7 +92,10 @@ pub fn end_if(code: Code<'_, '_>, items: &mut Vec<Item>, labels: u64) -> Result<
 /// Puts what stands before the `else` of an `if`, whose labels are numbered from `labels` on.
 pub fn end_then(code: Code<'_, '_>, items: &mut Vec<Item>, labels: u64) -> Result<(), AllocError>
     requires { 2 + labels < 2 ^ 64 }
-    ensures { OnOk result (Makes items.old.items items.new.items (λ rest. laws.jump (within_of code.entry) (2 + labels) ∷ laws.label_item (within_of code.entry) (1 + labels) ∷ rest)) }
+    ensures { OnOk result
+        (Makes items.old.items items.new.items
+        (λ rest. laws.jump (within_of code.entry) (2 + labels) ∷ laws.label_item (within_of code.entry) (1 + labels)
+        ∷ rest)) }
 {
     let other = 1 + labels;
     let end = 2 + labels;
@@ -95,7 +107,8 @@ pub fn end_then(code: Code<'_, '_>, items: &mut Vec<Item>, labels: u64) -> Resul
 /// Puts the label after the `else` of an `if`, whose labels are numbered from `labels` on.
 pub fn end_else(code: Code<'_, '_>, items: &mut Vec<Item>, labels: u64) -> Result<(), AllocError>
     requires { 2 + labels < 2 ^ 64 }
-    ensures { OnOk result (Makes items.old.items items.new.items (λ rest. laws.label_item (within_of code.entry) (2 + labels) ∷ rest)) }
+    ensures { OnOk result
+        (Makes items.old.items items.new.items (λ rest. laws.label_item (within_of code.entry) (2 + labels) ∷ rest)) }
 {
     let end = 2 + labels;
     put_label(code, items, end)?;

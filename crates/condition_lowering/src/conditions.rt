@@ -30,7 +30,9 @@ fn put_branch(
     held: &[u8],
     failed: &[u8],
 ) -> Result<(), AllocError>
-    ensures { OnOk result (Makes items.old.items items.new.items (λ rest. laws.branch (alf.expression_of test) held.now failed.now ∷ rest)) }
+    ensures { OnOk result
+        (Makes items.old.items items.new.items
+        (λ rest. laws.branch (alf.expression_of test) held.now failed.now ∷ rest)) }
 {
     let one = Num {
         signed: false,
@@ -55,7 +57,11 @@ fn put_value(
     failed: &[u8],
 ) -> Result<(), AllocError>
     requires { (unit_of code.table.now).words ≡ scopes.now.words }
-    ensures { OnOk result (Makes items.old.items items.new.items (λ rest. laws.branch (values.is_true (values.value_of (program_in code.entry.table.now) scopes.now.scopes (expression_of e.now))) held.now failed.now ∷ rest)) }
+    ensures { OnOk result
+        (Makes items.old.items items.new.items
+        (λ rest. laws.branch
+        (values.is_true (values.value_of (program_in code.entry.table.now) scopes.now.scopes (expression_of e.now)))
+        held.now failed.now ∷ rest)) }
 {
     let value = value_of(code.alloc, code.table, scopes, e)?;
     let test = is_true(code.alloc, value.value)?;
@@ -75,8 +81,14 @@ fn put_test(
     failed: &[u8],
 ) -> Result<(), AllocError>
     requires { (unit_of code.table.now).words ≡ scopes.now.words }
-    ensures { OnOk result (Makes items.old.items items.new.items (λ rest. laws.branch (values.test_of op (kind_of (unit_of code.entry.table.now).words scopes.now.scopes (expression_of left.now)) (kind_of (unit_of code.entry.table.now).words scopes.now.scopes (expression_of right.now))
-        (values.value_of (program_in code.entry.table.now) scopes.now.scopes (expression_of left.now)) (values.value_of (program_in code.entry.table.now) scopes.now.scopes (expression_of right.now))) held.now failed.now ∷ rest)) }
+    ensures { OnOk result
+        (Makes items.old.items items.new.items
+        (λ rest. laws.branch
+        (values.test_of op (kind_of (unit_of code.entry.table.now).words scopes.now.scopes (expression_of left.now))
+        (kind_of (unit_of code.entry.table.now).words scopes.now.scopes (expression_of right.now))
+        (values.value_of (program_in code.entry.table.now) scopes.now.scopes (expression_of left.now))
+        (values.value_of (program_in code.entry.table.now) scopes.now.scopes (expression_of right.now))) held.now
+        failed.now ∷ rest)) }
 {
     let l = value_of(code.alloc, code.table, scopes, left)?;
     let r = value_of(code.alloc, code.table, scopes, right)?;
@@ -100,7 +112,10 @@ pub fn put_condition(
 ) -> Result<u64, AllocError>
     requires words { (unit_of code.table.now).words ≡ scopes.now.words }
     requires few { next + laws.condition_labels (expression_of e.now) < 2 ^ 64 }
-    ensures items { OnOk result (Makes items.old.items items.new.items (laws.condition_items (within_of code.entry) scopes.now.scopes (expression_of e.now) next held.now failed.now)) }
+    ensures items { OnOk result
+        (Makes items.old.items items.new.items
+        (laws.condition_items (within_of code.entry) scopes.now.scopes (expression_of e.now) next held.now
+        failed.now)) }
     ensures labels { IfOk result (λ after. after ≡ next + laws.condition_labels (expression_of e.now)) }
 {
     match e {

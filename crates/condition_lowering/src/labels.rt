@@ -25,7 +25,8 @@ pub fn label_name(code: Code<'_, '_>, number: u64) -> Result<Name, AllocError>
 
 /// Puts the function's label of this number.
 pub fn put_label(code: Code<'_, '_>, items: &mut Vec<Item>, number: u64) -> Result<(), AllocError>
-    ensures { OnOk result (Makes items.old.items items.new.items (λ rest. laws.label_item (within_of code.entry) number ∷ rest)) }
+    ensures { OnOk result
+        (Makes items.old.items items.new.items (λ rest. laws.label_item (within_of code.entry) number ∷ rest)) }
 {
     let name = label_name(code, number)?;
     put(items, Item::Label(name))?;
@@ -34,7 +35,8 @@ pub fn put_label(code: Code<'_, '_>, items: &mut Vec<Item>, number: u64) -> Resu
 
 /// Puts a jump to the function's label of this number.
 pub fn put_jump(code: Code<'_, '_>, items: &mut Vec<Item>, number: u64) -> Result<(), AllocError>
-    ensures { OnOk result (Makes items.old.items items.new.items (λ rest. laws.jump (within_of code.entry) number ∷ rest)) }
+    ensures { OnOk result
+        (Makes items.old.items items.new.items (λ rest. laws.jump (within_of code.entry) number ∷ rest)) }
 {
     let name = label_name(code, number)?;
     put_act(items, Act::Jump(name))?;

@@ -22,15 +22,18 @@ abbrev pub alike : NumberedProgram → ℕ → ℕ → List (List ℕ)
 alike program cost n = map (alike_row program cost) (range_with_len 0 n)
 
 -- those of one more
-alike_more : (program : NumberedProgram) (cost n : ℕ) → alike program cost (n + 1) ≡ alike program cost n ++ alike_row program cost n ∷ []
+alike_more : (program : NumberedProgram) (cost n : ℕ)
+    → alike program cost (n + 1) ≡ alike program cost n ++ alike_row program cost n ∷ []
 alike_more program cost n = map-range_with_len_more (alike_row program cost) 0 n n (omega arith)
 
 -- the rows with one more
-pub alike_push : (program : NumberedProgram) (cost n : ℕ) (rows : List (List ℕ)) (row : List ℕ) → rows ≡ alike program cost n → row ≡ alike_row program cost n → rows ++ row ∷ [] ≡ alike program cost (n + 1)
+pub alike_push : (program : NumberedProgram) (cost n : ℕ) (rows : List (List ℕ)) (row : List ℕ)
+    → rows ≡ alike program cost n → row ≡ alike_row program cost n → rows ++ row ∷ [] ≡ alike program cost (n + 1)
 alike_push program cost n rows row rows_are row_is = rw (rows_are, row_is) (sym (alike_more program cost n))
 
 -- each row is that of its function
-row_is : (program : NumberedProgram) (cost n f : ℕ) (row : List ℕ) → slice_get (alike program cost n) f ≡ Some row → row ≡ alike_row program cost f
+row_is : (program : NumberedProgram) (cost n f : ℕ) (row : List ℕ) → slice_get (alike program cost n) f ≡ Some row
+    → row ≡ alike_row program cost f
 row_is program cost n f row at =
     let low : f < n = omega (arith, slice_get_within (alike program cost n) f row at, length-map-range_with_len (alike_row program cost) 0 n) in
     sym (get_or_from_slice_get (alike program cost n) f row [] at) ∙ get_or-map-range_with_len (alike_row program cost) 0 n f f [] low (omega arith)
@@ -50,7 +53,8 @@ cost_is program cost n f b = ⊎_elim
     (below_or_not f n)
 
 -- the table of all functions
-pub alike_table : (program : NumberedProgram) (cost n : ℕ) (rows : List (List ℕ)) → n ≡ length program.funcs → rows ≡ alike program cost n → IsCostTable program cost [] (record { rows = rows; others = cost })
+pub alike_table : (program : NumberedProgram) (cost n : ℕ) (rows : List (List ℕ)) → n ≡ length program.funcs
+    → rows ≡ alike program cost n → IsCostTable program cost [] (record { rows = rows; others = cost })
 alike_table program cost n rows all is = rw is (record {
   rows = record {
     functions = length-map-range_with_len (alike_row program cost) 0 n ∙ all;

@@ -16,15 +16,20 @@ use Rattle.cost_table.proofs.Numbers.{below_is, below_some}
 use Rattle.cost_table.proofs.Costing.{cost_with, row_long, rows_with, told_more}
 
 -- an entry with its keys
-pub entry_some : (ms : Members) (function : List ℕ) (told : BlockCost) → only_keys is_cost_key ms ≡ true → text_at (codes "function") ms ≡ Some function → number_at (codes "block") ms ≡ Some told.block → number_at (codes "cost") ms ≡ Some told.cost → cost_members ms ≡ Some (function, told)
+pub entry_some : (ms : Members) (function : List ℕ) (told : BlockCost) → only_keys is_cost_key ms ≡ true
+    → text_at (codes "function") ms ≡ Some function → number_at (codes "block") ms ≡ Some told.block
+    → number_at (codes "cost") ms ≡ Some told.cost → cost_members ms ≡ Some (function, told)
 entry_some ms function told keys function_is block_is cost_is = rw (keys, function_is, block_is, cost_is) refl
 
 -- an entry of a block gives its cost to this block alone
-given : (program : NumberedProgram) (datum : Data) (entry : List ℕ × BlockCost) (f b cost g c : ℕ) → cost_entry datum ≡ Some entry → cost_of entry.1.cost ≡ Some cost → IsBlock program entry f b → cost_by program g c datum ≡ (if nat_eq g f && nat_eq c b then Some cost else None)
+given : (program : NumberedProgram) (datum : Data) (entry : List ℕ × BlockCost) (f b cost g c : ℕ)
+    → cost_entry datum ≡ Some entry → cost_of entry.1.cost ≡ Some cost → IsBlock program entry f b
+    → cost_by program g c datum ≡ (if nat_eq g f && nat_eq c b then Some cost else None)
 given program datum entry f b cost g c keys costs is = rw (keys, is.named, is.numbered, costs) refl
 
 -- the function of a block is there
-pub function_there : (program : NumberedProgram) (table : CostTable) (entry : List ℕ × BlockCost) (f b : ℕ) → HasRows program table → IsBlock program entry f b → f < length table.rows
+pub function_there : (program : NumberedProgram) (table : CostTable) (entry : List ℕ × BlockCost) (f b : ℕ)
+    → HasRows program table → IsBlock program entry f b → f < length table.rows
 function_there program table entry f b has is = ⊎_elim
     (λ (low : f < length program.funcs). omega (arith, low, has.functions))
     (λ (high : length program.funcs ≤ f).
@@ -34,17 +39,22 @@ function_there program table entry f b has is = ⊎_elim
     (below_or_not f (length program.funcs))
 
 -- a name that no function has
-pub not_named : (program : NumberedProgram) (entry : List ℕ × BlockCost) → function_named program entry.0 ≡ None → ¬ HasBlock program entry
+pub not_named : (program : NumberedProgram) (entry : List ℕ × BlockCost) → function_named program entry.0 ≡ None
+    → ¬ HasBlock program entry
 not_named program entry none = λ has. none-some has.function (sym none ∙ has.is.named)
 
 -- the block of a function that has the name
-pub block_is : (program : NumberedProgram) (entry : List ℕ × BlockCost) (f b : ℕ) → function_named program entry.0 ≡ Some f → below (length (blocks_at program f)) entry.1.block ≡ Some b → IsBlock program entry f b
+pub block_is : (program : NumberedProgram) (entry : List ℕ × BlockCost) (f b : ℕ)
+    → function_named program entry.0 ≡ Some f → below (length (blocks_at program f)) entry.1.block ≡ Some b
+    → IsBlock program entry f b
 block_is program entry f b named is =
     let parts = below_some (length (blocks_at program f)) entry.1.block b is in
     record { named = named; numbered = parts.0; there = parts.1 }
 
 -- a number of none of its blocks
-pub no_block : (program : NumberedProgram) (entry : List ℕ × BlockCost) (f : ℕ) → function_named program entry.0 ≡ Some f → below (length (blocks_at program f)) entry.1.block ≡ None → ¬ HasBlock program entry
+pub no_block : (program : NumberedProgram) (entry : List ℕ × BlockCost) (f : ℕ)
+    → function_named program entry.0 ≡ Some f → below (length (blocks_at program f)) entry.1.block ≡ None
+    → ¬ HasBlock program entry
 no_block program entry f named none = λ has.
     let same : has.function ≡ f = same_Some has.function f (sym has.is.named ∙ named) in
     none-some has.block (sym none ∙ below_is (length (blocks_at program f)) entry.1.block has.block has.is.numbered (subst (λ (k : ℕ). has.block < length (blocks_at program k)) same has.is.there))

@@ -11,7 +11,8 @@ use Rattle.cost_table.specs.Entries.{RightBelow}
 use Rattle.cost_table.proofs.Steps.{more_entries, right_more}
 
 -- the table of the first n entries, which are right
-pub record CostsSoFar (program : NumberedProgram) (default : ℕ) (entries : List Data) (n : ℕ) (table : CostTable) : Type 0 where
+pub record CostsSoFar (program : NumberedProgram) (default : ℕ) (entries : List Data) (n : ℕ)
+    (table : CostTable) : Type 0 where
   pub within : n ≤ length entries
   pub is : IsCostTable program default (take n entries) table
   pub below : RightBelow (cost_judging program) entries n

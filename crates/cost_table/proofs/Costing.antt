@@ -53,13 +53,15 @@ cost_get table f b =
     ∙ ap (λ (row : List ℕ). get_or row b table.others) (unwrap_or-slice_get table.rows f [])
 
 -- the row of a function is as long as it has blocks
-pub row_long : (program : NumberedProgram) (table : CostTable) (f : ℕ) → HasRows program table → f < length table.rows → length (row_at table f) ≡ length (blocks_at program f)
+pub row_long : (program : NumberedProgram) (table : CostTable) (f : ℕ) → HasRows program table → f < length table.rows
+    → length (row_at table f) ≡ length (blocks_at program f)
 row_long program table f has low =
     let at : slice_get table.rows f ≡ Some (row_at table f) = slice_get-get_or table.rows f [] low ∙ ap Some (sym (unwrap_or-slice_get table.rows f [])) in
     has.blocks f (row_at table f) at
 
 -- a table keeps its rows
-pub rows_with : (program : NumberedProgram) (table : CostTable) (f b cost : ℕ) → HasRows program table → f < length table.rows → HasRows program (with_cost table f b cost)
+pub rows_with : (program : NumberedProgram) (table : CostTable) (f b cost : ℕ) → HasRows program table
+    → f < length table.rows → HasRows program (with_cost table f b cost)
 rows_with program table f b cost has low = record {
   functions = length-set table.rows f (set (row_at table f) b cost) ∙ has.functions;
   blocks = λ g row at. by_test (nat_eq g f)
@@ -75,14 +77,16 @@ rows_with program table f b cost has low = record {
 }
 
 -- the cost of the block itself
-cost_there : (table : CostTable) (f b cost : ℕ) → f < length table.rows → b < length (row_at table f) → cost_at (with_cost table f b cost) f b ≡ cost
+cost_there : (table : CostTable) (f b cost : ℕ) → f < length table.rows → b < length (row_at table f)
+    → cost_at (with_cost table f b cost) f b ≡ cost
 cost_there table f b cost low within =
     cost_get (with_cost table f b cost) f b
     ∙ ap (λ (row : List ℕ). get_or row b table.others) (get_or-set_same table.rows f (set (row_at table f) b cost) [] low)
     ∙ get_or-set_same (row_at table f) b cost table.others within
 
 -- of another block of the function
-cost_beside : (table : CostTable) (f b cost c : ℕ) → f < length table.rows → c ≢ b → cost_at (with_cost table f b cost) f c ≡ cost_at table f c
+cost_beside : (table : CostTable) (f b cost c : ℕ) → f < length table.rows → c ≢ b
+    → cost_at (with_cost table f b cost) f c ≡ cost_at table f c
 cost_beside table f b cost c low other =
     cost_get (with_cost table f b cost) f c
     ∙ ap (λ (row : List ℕ). get_or row c table.others) (get_or-set_same table.rows f (set (row_at table f) b cost) [] low)
@@ -90,7 +94,8 @@ cost_beside table f b cost c low other =
     ∙ sym (unwrap_or-slice_get (row_at table f) c table.others)
 
 -- of a block of another function
-cost_elsewhere : (table : CostTable) (f b cost g c : ℕ) → g ≢ f → cost_at (with_cost table f b cost) g c ≡ cost_at table g c
+cost_elsewhere : (table : CostTable) (f b cost g c : ℕ) → g ≢ f
+    → cost_at (with_cost table f b cost) g c ≡ cost_at table g c
 cost_elsewhere table f b cost g c other =
     cost_get (with_cost table f b cost) g c
     ∙ ap (λ (row : List ℕ). get_or row c table.others) (get_or-set_other table.rows f g (set (row_at table f) b cost) [] other)

@@ -92,7 +92,8 @@ module _ (program : NumberedProgram) (entry : List ℕ × Cells) (run : Run) (fi
   each_keeps = all_members (KeepsInput program) (rows_from first run.count) (λ c among. keeps_cell c (cell_of first run.count c among))
 
   -- all rows keep the rules of rows for a program
-  pub keep_more : (earlier : List InputRow) → KeepInputs program earlier → AreApart earlier (rows_from first run.count) → KeepInputs program (earlier ++ rows_from first run.count)
+  pub keep_more : (earlier : List InputRow) → KeepInputs program earlier → AreApart earlier (rows_from first run.count)
+      → KeepInputs program (earlier ++ rows_from first run.count)
   keep_more earlier kept cross =
       let exact = eights run.bits fits.is_run.sized in
       record {

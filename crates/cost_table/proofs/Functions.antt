@@ -20,24 +20,30 @@ from_there name fs k function at =
     ap (function_from name k) (drop-cons fs k function (slice_get_within fs k function at) ∙ ap (λ (first : NumberedFunction). first ∷ drop (suc k) fs) (get_or_from_slice_get fs k function function at) ∙ ap (λ (j : ℕ). function ∷ drop j fs) next)
 
 -- a function with the name is found
-pub from_same : (name : List ℕ) (fs : List NumberedFunction) (k : ℕ) (function : NumberedFunction) → slice_get fs k ≡ Some function → bytes_eq function.name name ≡ true → function_from name k (drop k fs) ≡ Some k
+pub from_same : (name : List ℕ) (fs : List NumberedFunction) (k : ℕ) (function : NumberedFunction)
+    → slice_get fs k ≡ Some function → bytes_eq function.name name ≡ true → function_from name k (drop k fs) ≡ Some k
 from_same name fs k function at is = from_there name fs k function at ∙ rw is refl
 
 -- and one without is passed
-pub from_other : (name : List ℕ) (fs : List NumberedFunction) (k : ℕ) (function : NumberedFunction) → slice_get fs k ≡ Some function → bytes_eq function.name name ≡ false → function_from name k (drop k fs) ≡ function_from name (k + 1) (drop (k + 1) fs)
+pub from_other : (name : List ℕ) (fs : List NumberedFunction) (k : ℕ) (function : NumberedFunction)
+    → slice_get fs k ≡ Some function → bytes_eq function.name name ≡ false
+    → function_from name k (drop k fs) ≡ function_from name (k + 1) (drop (k + 1) fs)
 from_other name fs k function at is = from_there name fs k function at ∙ rw is refl
 
 -- past the last there is none
-pub from_end : (name : List ℕ) (fs : List NumberedFunction) (k : ℕ) → length fs ≤ k → function_from name k (drop k fs) ≡ None
+pub from_end : (name : List ℕ) (fs : List NumberedFunction) (k : ℕ) → length fs ≤ k
+    → function_from name k (drop k fs) ≡ None
 from_end name fs k all = rw (drop_all k fs all) refl
 
 -- what is found is one of them
-from_low : (name : List ℕ) (k : ℕ) (fs : List NumberedFunction) (f : ℕ) → function_from name k fs ≡ Some f → f < k + length fs
+from_low : (name : List ℕ) (k : ℕ) (fs : List NumberedFunction) (f : ℕ) → function_from name k fs ≡ Some f
+    → f < k + length fs
 from_low name k [] f e = absurd (none-some f e)
 from_low name k (function ∷ fs) f e = by_test (bytes_eq function.name name)
     (λ t. let same : k ≡ f = same_Some k f (rw t at e) in omega (arith, same))
     (λ t. let low = from_low name (k + 1) fs f (rw t at e) in omega (arith, low))
 
 -- a function that is found is there
-pub named_there : (program : NumberedProgram) (name : List ℕ) (f : ℕ) → function_named program name ≡ Some f → f < length program.funcs
+pub named_there : (program : NumberedProgram) (name : List ℕ) (f : ℕ) → function_named program name ≡ Some f
+    → f < length program.funcs
 named_there program name f e = let low = from_low name 0 program.funcs f e in omega (arith, low)

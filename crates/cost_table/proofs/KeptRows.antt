@@ -18,7 +18,9 @@ use Rattle.cost_table.proofs.Steps.{more_made}
 
 module _ (program : NumberedProgram) (entries : List Data) (right : AllRight (input_judging program) entries) where
   -- with the rows of one entry more
-  more_keep : (n : ℕ) (datum : Data) → slice_get entries n ≡ Some datum → KeepInputs program (rows_in program (take n entries)) → KeepInputs program (rows_in program (take (n + 1) entries))
+  more_keep : (n : ℕ) (datum : Data) → slice_get entries n ≡ Some datum
+      → KeepInputs program (rows_in program (take n entries))
+      → KeepInputs program (rows_in program (take (n + 1) entries))
   more_keep n datum at kept =
       let is : IsRightInput program (rows_in program (take n entries)) datum = right n datum at in
       let earlier = rows_in program (take n entries) in

@@ -26,7 +26,8 @@ record AreUpTo (n : ℕ) (tasks : List Task) : Type 0 where
   apart : AllPairs Differ tasks
 
 -- with one task more
-one_more : (n : ℕ) (tasks : List Task) (task : Task) → AreUpTo n tasks → IsInRange task → All (λ other. other.priority ≢ task.priority) tasks → AreUpTo (n + 1) (tasks ++ task ∷ [])
+one_more : (n : ℕ) (tasks : List Task) (task : Task) → AreUpTo n tasks → IsInRange task
+    → All (λ other. other.priority ≢ task.priority) tasks → AreUpTo (n + 1) (tasks ++ task ∷ [])
 one_more n tasks task are range free = record {
   few = let long = length-append tasks (task ∷ []) in let few = are.few in omega arith;
   ranges = All-push IsInRange tasks task are.ranges range;
@@ -36,7 +37,8 @@ one_more n tasks task are range free = record {
 
 module _ (entries : List Data) (right : AllRight task_judging entries) where
   -- with the task of one entry more
-  more_keep : (n : ℕ) (datum : Data) → slice_get entries n ≡ Some datum → AreUpTo n (tasks_in (take n entries)) → AreUpTo (n + 1) (tasks_in (take (n + 1) entries))
+  more_keep : (n : ℕ) (datum : Data) → slice_get entries n ≡ Some datum → AreUpTo n (tasks_in (take n entries))
+      → AreUpTo (n + 1) (tasks_in (take (n + 1) entries))
   more_keep n datum at kept =
       let is : IsRightTask (tasks_in (take n entries)) datum = right n datum at in
       let earlier = tasks_in (take n entries) in

@@ -19,7 +19,8 @@ use Rattle.cost_table.specs.Inputs.{IsRun, LiesIn, first_row, input_frame, root_
 use Rattle.cost_table.proofs.FramesFound.{FoundFrame, frame_found}
 
 -- the frame that is found is there
-pub found_there : (program : NumberedProgram) (name : List ℕ) (f : ℕ) → input_frame program name ≡ Some f → f < length program.frames
+pub found_there : (program : NumberedProgram) (name : List ℕ) (f : ℕ) → input_frame program name ≡ Some f
+    → f < length program.frames
 found_there program name f e =
     let found : FoundFrame (root_arguments program) name 0 program.frames f = frame_found (root_arguments program) name 0 program.frames f e in
     let low = slice_get_within program.frames found.place found.row found.at in
@@ -31,14 +32,18 @@ first_cell_of f offset size low high = record { frame = f; offset = offset; size
 
 module _ (program : NumberedProgram) (name : List ℕ) (cells : Cells) (run : Run) (is_run : IsRun cells run) where
   -- the row of the first cell
-  pub first_is : (f offset : ℕ) (low high : ℤ) → cells.offset ≡ pos offset → low ≡ cells.low → high ≡ cells.high → first_cell_of f offset run.bits low high ≡ first_row cells f
+  pub first_is : (f offset : ℕ) (low high : ℤ) → cells.offset ≡ pos offset → low ≡ cells.low → high ≡ cells.high
+      → first_cell_of f offset run.bits low high ≡ first_row cells f
   first_is f offset low high e low_is high_is = rw (e, is_run.size, low_is, high_is) refl
 
-  bytes_are : (offset : ℕ) → cells.offset ≡ pos offset → whole cells.offset + whole cells.count * (whole cells.size / 8) ≡ offset + run.count * (run.bits / 8)
+  bytes_are : (offset : ℕ) → cells.offset ≡ pos offset
+      → whole cells.offset + whole cells.count * (whole cells.size / 8) ≡ offset + run.count * (run.bits / 8)
   bytes_are offset e = rw (e, is_run.count, is_run.size) refl
 
   -- they lie there, where the first offset and the bytes after it are small enough
-  pub lies_there : (f : ℕ) (row : FrameRow) (offset : ℕ) → input_frame program name ≡ Some f → slice_get program.frames f ≡ Some row → cells.offset ≡ pos offset → offset + run.count * (run.bits / 8) ≤ row.bits / 8 → LiesIn program (name, cells) f
+  pub lies_there : (f : ℕ) (row : FrameRow) (offset : ℕ) → input_frame program name ≡ Some f
+      → slice_get program.frames f ≡ Some row → cells.offset ≡ pos offset
+      → offset + run.count * (run.bits / 8) ≤ row.bits / 8 → LiesIn program (name, cells) f
   lies_there f row offset named at e small = record {
     row = row;
     named = named;
@@ -48,7 +53,9 @@ module _ (program : NumberedProgram) (name : List ℕ) (cells : Cells) (run : Ru
   }
 
   -- where they lie in a frame, it is the one that is found, and the offset is small enough
-  pub lies_small : (f : ℕ) (row : FrameRow) (offset g : ℕ) → input_frame program name ≡ Some f → slice_get program.frames f ≡ Some row → cells.offset ≡ pos offset → LiesIn program (name, cells) g → offset + run.count * (run.bits / 8) ≤ row.bits / 8
+  pub lies_small : (f : ℕ) (row : FrameRow) (offset g : ℕ) → input_frame program name ≡ Some f
+      → slice_get program.frames f ≡ Some row → cells.offset ≡ pos offset → LiesIn program (name, cells) g
+      → offset + run.count * (run.bits / 8) ≤ row.bits / 8
   lies_small f row offset g named at e lies =
       let same : g ≡ f = same_Some g f (sym lies.named ∙ named) in
       let row_is : lies.row ≡ row = same_Some lies.row row (sym lies.at ∙ ap (slice_get program.frames) same ∙ at) in
@@ -56,7 +63,8 @@ module _ (program : NumberedProgram) (name : List ℕ) (cells : Cells) (run : Ru
       subst (λ (r : FrameRow). offset + run.count * (run.bits / 8) ≤ r.bits / 8) row_is to
 
   -- where they lie in a frame, the offset is not negative, and fits
-  pub lies_fits : KeepsFrames program → (g : ℕ) → LiesIn program (name, cells) g → (pos 0 ≤ℤ cells.offset) × (cells.offset ≤ℤ pos 65536)
+  pub lies_fits : KeepsFrames program → (g : ℕ) → LiesIn program (name, cells) g
+      → (pos 0 ≤ℤ cells.offset) × (cells.offset ≤ℤ pos 65536)
   lies_fits kept g lies =
       let keeps : KeepsFrame lies.row = All-contains KeepsFrame program.frames lies.row kept.each (contained program.frames g lies.row lies.at) in
       let low : whole cells.offset ≤ 65536 = omega (arith, lies.to) in

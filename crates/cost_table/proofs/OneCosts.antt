@@ -20,7 +20,8 @@ fair program = record {
 }
 
 -- a cost is one of a row
-cost_is : (table : CostTable) (f k d : ℕ) (row : List ℕ) → slice_get table.rows f ≡ Some row → k < length row → cost_at table f k ≡ get_or row k d
+cost_is : (table : CostTable) (f k d : ℕ) (row : List ℕ) → slice_get table.rows f ≡ Some row → k < length row
+    → cost_at table f k ≡ get_or row k d
 cost_is table f k d row at low = rw (at, slice_get-get_or row k d low) refl
 
 -- the tables of a default and entries have the same rows
@@ -34,7 +35,8 @@ same_parts : (a b : CostTable) → a.rows ≡ b.rows → a.others ≡ b.others �
 same_parts a b rows others = subst (λ (r : List (List ℕ)). a ≡ record { rows = r; others = b.others }) rows (ap (λ (o : ℕ). record { rows = a.rows; others = o }) others)
 
 -- a default and entries have one table
-one_table : (program : NumberedProgram) (default : ℕ) (entries : List Data) (a b : CostTable) → IsCostTable program default entries a → IsCostTable program default entries b → a ≡ b
+one_table : (program : NumberedProgram) (default : ℕ) (entries : List Data) (a b : CostTable)
+    → IsCostTable program default entries a → IsCostTable program default entries b → a ≡ b
 one_table program default entries a b is is_too =
     let long : length a.rows ≡ length b.rows = is.rows.functions ∙ sym is_too.rows.functions in
     same_parts a b
@@ -42,11 +44,13 @@ one_table program default entries a b is is_too =
     (is.others ∙ sym is_too.others)
 
 -- the entries of a file that means costs
-entries_of : (bytes : List ℕ) (program : NumberedProgram) (table : CostTable) → (m : MeansCosts bytes program table) → HasEntries bytes cost_entries m.entries
+entries_of : (bytes : List ℕ) (program : NumberedProgram) (table : CostTable) → (m : MeansCosts bytes program table)
+    → HasEntries bytes cost_entries m.entries
 entries_of bytes program table m = record { members = m.members; document = m.document; told = m.told }
 
 -- a file means one table
-one_meaning : (bytes : List ℕ) (program : NumberedProgram) (a b : CostTable) → MeansCosts bytes program a → MeansCosts bytes program b → a ≡ b
+one_meaning : (bytes : List ℕ) (program : NumberedProgram) (a b : CostTable) → MeansCosts bytes program a
+    → MeansCosts bytes program b → a ≡ b
 one_meaning bytes program a b m n =
     let members : n.members ≡ m.members = one_document bytes n.members m.members n.document m.document in
     let default : n.default ≡ m.default = same_Some n.default m.default (sym n.default_is ∙ ap default_cost members ∙ m.default_is) in

@@ -17,8 +17,10 @@ use Rattle.cost_table.proofs.Orders.{below_or_not}
 
 -- no entry is right and wrong, and an entry has one fault
 pub record IsFair (judging : Judging) : Type 0 where
-  pub apart : (before : List Data) (k : ℕ) (datum : Data) (fault : TableFault) → judging.Right before k datum → judging.Wrong before k datum fault → ⊥
-  pub one : (before : List Data) (k : ℕ) (datum : Data) (f g : TableFault) → judging.Wrong before k datum f → judging.Wrong before k datum g → f ≡ g
+  pub apart : (before : List Data) (k : ℕ) (datum : Data) (fault : TableFault) → judging.Right before k datum
+      → judging.Wrong before k datum fault → ⊥
+  pub one : (before : List Data) (k : ℕ) (datum : Data) (f g : TableFault) → judging.Wrong before k datum f
+      → judging.Wrong before k datum g → f ≡ g
 
 -- ---- one entry
 
@@ -32,7 +34,8 @@ right_or_wrong told InRange IsThere k datum (faults.Limit which count) right wro
 right_or_wrong told InRange IsThere k datum faults.Memory right wrong = wrong
 
 -- what is out of range is not in range
-out_or_not : {E : Type 0} (told : Data → Option E) (InRange IsThere : E → Type 0) (datum : Data) → IsOutOfRange told InRange datum → NamesNothing told InRange IsThere datum → ⊥
+out_or_not : {E : Type 0} (told : Data → Option E) (InRange IsThere : E → Type 0) (datum : Data)
+    → IsOutOfRange told InRange datum → NamesNothing told InRange IsThere datum → ⊥
 out_or_not told InRange IsThere datum a b = a.out (subst InRange (same_Some b.entry a.entry (sym b.has_keys ∙ a.has_keys)) b.in_range)
 
 -- an entry has one fault
@@ -60,23 +63,28 @@ pub one_document : (bytes : List ℕ) (ms ns : Members) → IsDocument bytes ms 
 one_document bytes ms ns m n = same_Some ms ns (sym m.parsed ∙ n.parsed)
 
 -- with one list of entries
-pub one_list : (bytes : List ℕ) (top : Members → Option (List Data)) (ds es : List Data) → HasEntries bytes top ds → HasEntries bytes top es → ds ≡ es
+pub one_list : (bytes : List ℕ) (top : Members → Option (List Data)) (ds es : List Data) → HasEntries bytes top ds
+    → HasEntries bytes top es → ds ≡ es
 one_list bytes top ds es d e = same_Some ds es (sym d.told ∙ ap top (one_document bytes d.members e.members d.document e.document) ∙ e.told)
 
 -- or none
-pub told_or_not : (bytes : List ℕ) (top : Members → Option (List Data)) (es : List Data) → HasWrongTop bytes top → HasEntries bytes top es → ⊥
+pub told_or_not : (bytes : List ℕ) (top : Members → Option (List Data)) (es : List Data) → HasWrongTop bytes top
+    → HasEntries bytes top es → ⊥
 told_or_not bytes top es h e = none-some es (sym h.untold ∙ ap top (one_document bytes h.members e.members h.document e.document) ∙ e.told)
 
 -- where all are right, there is no first fault
-none_wrong : (judging : Judging) (entries : List Data) (fault : TableFault) → IsFair judging → AllRight judging entries → IsFirstFault judging entries fault → ⊥
+none_wrong : (judging : Judging) (entries : List Data) (fault : TableFault) → IsFair judging → AllRight judging entries
+    → IsFirstFault judging entries fault → ⊥
 none_wrong judging entries fault fair right first = fair.apart (take first.place entries) first.place first.datum fault (right first.place first.datum first.stands) first.wrong
 
 -- no fault comes before the first
-not_before : (judging : Judging) (entries : List Data) (f g : TableFault) → IsFair judging → (a : IsFirstFault judging entries f) → (b : IsFirstFault judging entries g) → a.place < b.place → ⊥
+not_before : (judging : Judging) (entries : List Data) (f g : TableFault) → IsFair judging
+    → (a : IsFirstFault judging entries f) → (b : IsFirstFault judging entries g) → a.place < b.place → ⊥
 not_before judging entries f g fair a b low = fair.apart (take a.place entries) a.place a.datum f (b.before a.place a.datum low a.stands) a.wrong
 
 -- the first is one
-one_first : (judging : Judging) (entries : List Data) (f g : TableFault) → IsFair judging → IsFirstFault judging entries f → IsFirstFault judging entries g → f ≡ g
+one_first : (judging : Judging) (entries : List Data) (f g : TableFault) → IsFair judging
+    → IsFirstFault judging entries f → IsFirstFault judging entries g → f ≡ g
 one_first judging entries f g fair a b = ⊎_elim
     (λ (low : a.place < b.place). absurd (not_before judging entries f g fair a b low))
     (λ (high : b.place ≤ a.place). ⊎_elim
@@ -90,7 +98,8 @@ one_first judging entries f g fair a b = ⊎_elim
     (below_or_not a.place b.place)
 
 -- a file is refused for one fault
-pub one_refusal : (bytes : List ℕ) (top : Members → Option (List Data)) (judging : Judging) (f g : TableFault) → IsFair judging → Refuses bytes top judging f → Refuses bytes top judging g → f ≡ g
+pub one_refusal : (bytes : List ℕ) (top : Members → Option (List Data)) (judging : Judging) (f g : TableFault)
+    → IsFair judging → Refuses bytes top judging f → Refuses bytes top judging g → f ≡ g
 one_refusal bytes top judging f g fair (NoDocument n) (NoDocument m) = refl
 one_refusal bytes top judging f g fair (NoDocument n) (WrongTop h) = absurd (n h.members h.document)
 one_refusal bytes top judging f g fair (NoDocument n) (WrongEntry other e) = absurd (n e.told.members e.told.document)

@@ -19,7 +19,8 @@ fair program = record {
 pub inputs_one : InputsHaveOneAnswer
 inputs_one bytes program = answers
   where
-    answers : (a b : Result (List InputRow) TableFault) → AnswersInputs bytes program a → AnswersInputs bytes program b → a ≡ b
+    answers : (a b : Result (List InputRow) TableFault) → AnswersInputs bytes program a → AnswersInputs bytes program b
+        → a ≡ b
     answers (Ok rows) (Ok more) m n = ap Ok (m.all ∙ ap (rows_in program) (one_list bytes input_entries m.entries n.entries m.told n.told) ∙ sym n.all)
     answers (Ok rows) (Err f) m r = absurd (right_or_refused bytes input_entries (input_judging program) m.entries f (fair program) m.told m.right r)
     answers (Err f) (Ok rows) r m = absurd (right_or_refused bytes input_entries (input_judging program) m.entries f (fair program) m.told m.right r)

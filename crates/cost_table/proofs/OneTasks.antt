@@ -19,7 +19,8 @@ fair = record {
 }
 
 -- a file with few entries has not too many
-pub few_or_many : (bytes : List ℕ) (entries : List Data) → HasEntries bytes task_entries entries → length entries ≤ 64 → ¬ HasTooMany bytes
+pub few_or_many : (bytes : List ℕ) (entries : List Data) → HasEntries bytes task_entries entries → length entries ≤ 64
+    → ¬ HasTooMany bytes
 few_or_many bytes entries told few = λ h.
     let same : length h.entries ≡ length entries = ap length (one_list bytes task_entries h.entries entries h.told told) in
     let many = h.many in
@@ -30,7 +31,8 @@ pub wrong_or_many : (bytes : List ℕ) → HasWrongTop bytes task_entries → ¬
 wrong_or_many bytes wrong = λ h. told_or_not bytes task_entries h.entries wrong h.told
 
 -- it is not refused
-means_or_refused : (bytes : List ℕ) (tasks : List Task) (fault : TableFault) → MeansTasks bytes tasks → RefusesTasks bytes fault → ⊥
+means_or_refused : (bytes : List ℕ) (tasks : List Task) (fault : TableFault) → MeansTasks bytes tasks
+    → RefusesTasks bytes fault → ⊥
 means_or_refused bytes tasks fault m (TooMany h) = few_or_many bytes m.entries m.told m.few h
 means_or_refused bytes tasks fault m (Otherwise one few r) = right_or_refused bytes task_entries task_judging m.entries one fair m.told m.right r
 

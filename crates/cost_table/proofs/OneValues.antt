@@ -5,7 +5,8 @@ use Rattle.toml.specs.Data.{Members}
 use Rattle.cost_table.specs.RunValues.{told_values, MeansValues, IsWrongValues, NoValues, OtherCount, HasWrongValues, NoDocument, WrongTop}
 use Rattle.cost_table.specs.Laws.{ValuesHaveOneAnswer}
 
-not_wrong : {n : ℕ} {t : Option (List ℤ)} (numbers : List ℤ) → t ≡ Some numbers → length numbers ≡ n → IsWrongValues n t → ⊥
+not_wrong : {n : ℕ} {t : Option (List ℤ)} (numbers : List ℤ) → t ≡ Some numbers → length numbers ≡ n → IsWrongValues n t
+    → ⊥
 not_wrong numbers is count NoValues = none-some numbers is
 not_wrong numbers is count (OtherCount others differ) = differ (ap (λ (xs : List ℤ). length xs) (same_Some others numbers is) ∙ count)
 

@@ -14,7 +14,8 @@ pairs_tail : {X : Type 0} (R : X → X → Type 0) (x : X) (xs : List X) → All
 pairs_tail R x xs p = λ i j d less low. p (suc i) (suc j) d (omega arith) (omega arith)
 
 -- the pairs of both lists
-pub pairs_append : {X : Type 0} (R : X → X → Type 0) (xs ys : List X) → AllPairs R xs → AllPairs R ys → All (λ a. All (R a) ys) xs → AllPairs R (xs ++ ys)
+pub pairs_append : {X : Type 0} (R : X → X → Type 0) (xs ys : List X) → AllPairs R xs → AllPairs R ys
+    → All (λ a. All (R a) ys) xs → AllPairs R (xs ++ ys)
 pairs_append R [] ys p q cross = q
 pairs_append R (x ∷ xs) ys p q cross = AllPairs-cons R x (xs ++ ys)
     (All-append (R x) xs ys (pairs_head R x xs p) (All-head (λ a. All (R a) ys) x xs cross))

@@ -46,7 +46,8 @@ module _ (program : NumberedProgram) (entry : List ℕ × Cells) (run : Run) (fi
   size_is = fitting.size_is program entry run first fits
 
   -- the frame is there, and small
-  pub frame_small : (first.frame < length program.frames) × (length program.frames ≤ 256) × (placed.lies.row.bits / 8 ≤ 65536)
+  pub frame_small : (first.frame < length program.frames) × (length program.frames ≤ 256)
+      × (placed.lies.row.bits / 8 ≤ 65536)
   frame_small =
       let keeps : KeepsFrame placed.lies.row = All-contains KeepsFrame program.frames placed.lies.row placed.kept.frames.each (contained program.frames first.frame placed.lies.row placed.lies.at) in
       (slice_get_within program.frames first.frame placed.lies.row placed.lies.at, placed.kept.limits.frames, omega arith)
@@ -61,11 +62,14 @@ module _ (program : NumberedProgram) (entry : List ℕ × Cells) (run : Run) (fi
   rows_are = fitting.rows_are program entry run first fits
 
   -- all rows keep the rules of rows for a program
-  pub keep_more : (earlier : List InputRow) → KeepInputs program earlier → AreApart earlier (rows_from first run.count) → KeepInputs program (earlier ++ rows_from first run.count)
+  pub keep_more : (earlier : List InputRow) → KeepInputs program earlier → AreApart earlier (rows_from first run.count)
+      → KeepInputs program (earlier ++ rows_from first run.count)
   keep_more earlier kept cross = fitting.keep_more program entry run first fits earlier kept cross
 
   -- none shares a byte with an earlier row if no byte has a mark
-  apart_from : (earlier : List InputRow) (marks : List Bool) → All (KeepsInput program) earlier → AreMarks earlier marks → ¬ IsMarkedIn marks (start_of first) (end_of first run.count) → (a c : InputRow) → Contains earlier a → IsCellOf first run.count c → ShareNoByte a c
+  apart_from : (earlier : List InputRow) (marks : List Bool) → All (KeepsInput program) earlier → AreMarks earlier marks
+      → ¬ IsMarkedIn marks (start_of first) (end_of first run.count) → (a c : InputRow) → Contains earlier a
+      → IsCellOf first run.count c → ShareNoByte a c
   apart_from earlier marks kept are free a c among is same =
       let a_keeps : KeepsInput program a = All-contains (KeepsInput program) earlier a kept among in
       let a_exact = eights a.size a_keeps.sized in
@@ -87,11 +91,15 @@ module _ (program : NumberedProgram) (entry : List ℕ × Cells) (run : Run) (fi
       (below_or_not (c.offset + c.size / 8) (a.offset + 1)))
       (below_or_not (a.offset + a.size / 8) (c.offset + 1))
 
-  pub free_apart : (earlier : List InputRow) (marks : List Bool) → All (KeepsInput program) earlier → AreMarks earlier marks → ¬ IsMarkedIn marks (start_of first) (end_of first run.count) → AreApart earlier (rows_from first run.count)
+  pub free_apart : (earlier : List InputRow) (marks : List Bool) → All (KeepsInput program) earlier
+      → AreMarks earlier marks → ¬ IsMarkedIn marks (start_of first) (end_of first run.count)
+      → AreApart earlier (rows_from first run.count)
   free_apart earlier marks kept are free = all_members (λ a. All (ShareNoByte a) (rows_from first run.count)) earlier (λ a among. all_members (ShareNoByte a) (rows_from first run.count) (λ c further. apart_from earlier marks kept are free a c among (cell_of first run.count c further)))
 
   -- one does if some byte has a mark
-  pub met_shares : (earlier : List InputRow) (marks : List Bool) → All (KeepsInput program) earlier → AreMarks earlier marks → IsMarkedIn marks (start_of first) (end_of first run.count) → AreApart earlier (rows_from first run.count) → ⊥
+  pub met_shares : (earlier : List InputRow) (marks : List Bool) → All (KeepsInput program) earlier
+      → AreMarks earlier marks → IsMarkedIn marks (start_of first) (end_of first run.count)
+      → AreApart earlier (rows_from first run.count) → ⊥
   met_shares earlier marks kept are met apart =
       let small = frame_small in
       let room = room_of in
@@ -111,13 +119,15 @@ module _ (program : NumberedProgram) (entry : List ℕ × Cells) (run : Run) (fi
       (share (taken.frame ∙ sym cell.frame))
 
   -- a byte between the first and the last of the cells is one of theirs
-  taken_new : (f b : ℕ) → b < 65536 → start_of first ≤ f * 65536 + b → f * 65536 + b < end_of first run.count → IsTaken (rows_from first run.count) f b
+  taken_new : (f b : ℕ) → b < 65536 → start_of first ≤ f * 65536 + b → f * 65536 + b < end_of first run.count
+      → IsTaken (rows_from first run.count) f b
   taken_new f b small from inside =
       let frame : first.frame ≡ f = omega (arith, frame_small, room_of) in
       subst (λ k. IsTaken (rows_from first run.count) k b) frame (taken_from first run.count b (omega (arith, frame)) (omega (arith, frame)))
 
   -- a mark stays
-  kept_mark : (old new : List Bool) → MarksIn old new (start_of first) (end_of first run.count) → (place : ℕ) → slice_get old place ≡ Some true → slice_get new place ≡ Some true
+  kept_mark : (old new : List Bool) → MarksIn old new (start_of first) (end_of first run.count) → (place : ℕ)
+      → slice_get old place ≡ Some true → slice_get new place ≡ Some true
   kept_mark old new marked place is = ⊎_elim
       (λ (before : place < start_of first). marked.outside place (inl before) ∙ is)
       (λ (from : start_of first ≤ place). ⊎_elim
@@ -127,7 +137,8 @@ module _ (program : NumberedProgram) (entry : List ℕ × Cells) (run : Run) (fi
       (below_or_not place (start_of first))
 
   -- once their bytes are marked, the marks are those of all rows
-  pub marks_more : (earlier : List InputRow) (old new : List Bool) → AreMarks earlier old → MarksIn old new (start_of first) (end_of first run.count) → AreMarks (earlier ++ rows_from first run.count) new
+  pub marks_more : (earlier : List InputRow) (old new : List Bool) → AreMarks earlier old
+      → MarksIn old new (start_of first) (end_of first run.count) → AreMarks (earlier ++ rows_from first run.count) new
   marks_more earlier old new are marked = record {
     taken = λ f b small is. ⊎_elim
         (λ (before : f * 65536 + b < start_of first). taken_left earlier (rows_from first run.count) f b (are.taken f b small (sym (marked.outside (f * 65536 + b) (inl before)) ∙ is)))

@@ -62,7 +62,8 @@ taken_further : (row : InputRow) (rows : List InputRow) (f b : ℕ) → IsTaken 
 taken_further row rows f b taken = record { row = taken.row; among = further_member row rows taken.row taken.among; frame = taken.frame; low = taken.low; high = taken.high }
 
 -- each byte of the cells is one of a row
-pub taken_from : (row : InputRow) (n b : ℕ) → row.offset ≤ b → b < row.offset + n * width row → IsTaken (rows_from row n) row.frame b
+pub taken_from : (row : InputRow) (n b : ℕ) → row.offset ≤ b → b < row.offset + n * width row
+    → IsTaken (rows_from row n) row.frame b
 taken_from row zero b low high = absurd (omega arith)
 taken_from row (suc n) b low high = ⊎_elim
     (λ (here : b < row.offset + width row). record { row = row; among = first_member row (rows_from (after row) n); frame = refl; low = low; high = here })

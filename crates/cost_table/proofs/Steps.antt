@@ -20,15 +20,18 @@ use Rattle.cost_table.specs.Marks.{AreMarks}
 use Rattle.cost_table.proofs.Orders.{below_or_not}
 
 -- the first entries and one more
-pub more_entries : {A : Type 0} (xs : List A) (i : ℕ) (x : A) → slice_get xs i ≡ Some x → take (i + 1) xs ≡ take i xs ++ x ∷ []
+pub more_entries : {A : Type 0} (xs : List A) (i : ℕ) (x : A) → slice_get xs i ≡ Some x
+    → take (i + 1) xs ≡ take i xs ++ x ∷ []
 more_entries xs i x at = take_more xs i x (slice_get_within xs i x at) ∙ ap (λ y. take i xs ++ y ∷ []) (get_or_from_slice_get xs i x x at)
 
 -- what is made of the first entries and of one more
-pub more_made : {A B : Type 0} (f : A → List B) (xs : List A) (i : ℕ) (x : A) → slice_get xs i ≡ Some x → flat_map f (take (i + 1) xs) ≡ flat_map f (take i xs) ++ f x
+pub more_made : {A B : Type 0} (f : A → List B) (xs : List A) (i : ℕ) (x : A) → slice_get xs i ≡ Some x
+    → flat_map f (take (i + 1) xs) ≡ flat_map f (take i xs) ++ f x
 more_made f xs i x at = ap (flat_map f) (more_entries xs i x at) ∙ flat_map-append f (take i xs) (x ∷ []) ∙ simp append-nil
 
 -- the first entries are right, and one more
-pub right_more : (judging : Judging) (entries : List Data) (i : ℕ) (datum : Data) → RightBelow judging entries i → slice_get entries i ≡ Some datum → judging.Right (take i entries) i datum → RightBelow judging entries (i + 1)
+pub right_more : (judging : Judging) (entries : List Data) (i : ℕ) (datum : Data) → RightBelow judging entries i
+    → slice_get entries i ≡ Some datum → judging.Right (take i entries) i datum → RightBelow judging entries (i + 1)
 right_more judging entries i datum below at right = λ k other low stands. ⊎_elim
     (λ (before : k < i). below k other before stands)
     (λ (last : i ≤ k).
@@ -38,15 +41,18 @@ right_more judging entries i datum below at right = λ k other low stands. ⊎_e
     (below_or_not k i)
 
 -- all are right, where as many are as there are
-pub all_right : (judging : Judging) (entries : List Data) (n : ℕ) → n ≡ length entries → RightBelow judging entries n → AllRight judging entries
+pub all_right : (judging : Judging) (entries : List Data) (n : ℕ) → n ≡ length entries → RightBelow judging entries n
+    → AllRight judging entries
 all_right judging entries n e below = λ k datum stands. below k datum (let low = slice_get_within entries k datum stands in omega arith) stands
 
 -- what is made of as many as there are is made of all
-pub all_made : {A B : Type 0} (f : A → List B) (xs : List A) (n : ℕ) → n ≡ length xs → flat_map f (take n xs) ≡ flat_map f xs
+pub all_made : {A B : Type 0} (f : A → List B) (xs : List A) (n : ℕ) → n ≡ length xs
+    → flat_map f (take n xs) ≡ flat_map f xs
 all_made f xs n e = ap (flat_map f) (take_all n xs (omega arith))
 
 -- rows and marks of the first n entries, which are right
-pub record RowsSoFar (program : NumberedProgram) (entries : List Data) (n : ℕ) (rows : List InputRow) (marks : List Bool) : Type 0 where
+pub record RowsSoFar (program : NumberedProgram) (entries : List Data) (n : ℕ) (rows : List InputRow)
+    (marks : List Bool) : Type 0 where
   pub within : n ≤ length entries
   pub kept : KeepInputs program rows
   pub long : length marks ≡ length program.frames * 65536
@@ -66,7 +72,8 @@ one_more program entries n rows more marks new datum so_far at right more_is kep
 }
 
 -- before the first entry
-pub none_yet : (program : NumberedProgram) (entries : List Data) (marks : List Bool) → length marks ≡ length program.frames * 65536 → AreMarks [] marks → RowsSoFar program entries 0 [] marks
+pub none_yet : (program : NumberedProgram) (entries : List Data) (marks : List Bool)
+    → length marks ≡ length program.frames * 65536 → AreMarks [] marks → RowsSoFar program entries 0 [] marks
 none_yet program entries marks long none = record {
   within = omega arith;
   kept = record { each = All-nil (KeepsInput program); apart = λ i j d less low. absurd (omega arith) };

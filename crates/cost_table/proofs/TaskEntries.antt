@@ -23,7 +23,10 @@ use Rattle.cost_table.specs.TaskFiles.{AreInRange, IsFrom, IsRightTask, entry_ta
 use Rattle.cost_table.proofs.Steps.{more_made, right_more}
 
 -- an entry with its keys
-pub entry_some : (ms : Members) (name : List ℕ) (numbers : TaskNumbers) → only_keys is_task_key ms ≡ true → text_at (codes "name") ms ≡ Some name → number_at (codes "cost") ms ≡ Some numbers.cost → number_at (codes "period") ms ≡ Some numbers.period → number_at (codes "deadline") ms ≡ Some numbers.deadline → number_at (codes "priority") ms ≡ Some numbers.priority → task_members ms ≡ Some (name, numbers)
+pub entry_some : (ms : Members) (name : List ℕ) (numbers : TaskNumbers) → only_keys is_task_key ms ≡ true
+    → text_at (codes "name") ms ≡ Some name → number_at (codes "cost") ms ≡ Some numbers.cost
+    → number_at (codes "period") ms ≡ Some numbers.period → number_at (codes "deadline") ms ≡ Some numbers.deadline
+    → number_at (codes "priority") ms ≡ Some numbers.priority → task_members ms ≡ Some (name, numbers)
 entry_some ms name numbers keys name_is cost_is period_is deadline_is priority_is = rw (keys, name_is, cost_is, period_is, deadline_is, priority_is) refl
 
 -- a number that is not below a least one
@@ -47,7 +50,8 @@ in_range entry are = record {
 }
 
 -- the tasks of an entry that has its keys
-pub made_of : (datum : Data) (entry : List ℕ × TaskNumbers) → task_entry datum ≡ Some entry → entry_tasks datum ≡ task_of entry ∷ []
+pub made_of : (datum : Data) (entry : List ℕ × TaskNumbers) → task_entry datum ≡ Some entry
+    → entry_tasks datum ≡ task_of entry ∷ []
 made_of datum entry is = ap (λ (told : Option (List ℕ × TaskNumbers)). option_map_or (λ (e : List ℕ × TaskNumbers). task_of e ∷ []) told []) is
 
 -- the tasks of the first n entries, which are right
@@ -57,7 +61,9 @@ pub record TasksSoFar (entries : List Data) (n : ℕ) (tasks : List Task) : Type
   pub below : RightBelow task_judging entries n
 
 -- those of one entry more
-pub tasks_more : (entries : List Data) (n : ℕ) (tasks more : List Task) (datum : Data) → TasksSoFar entries n tasks → slice_get entries n ≡ Some datum → IsRightTask tasks datum → more ≡ tasks ++ entry_tasks datum → TasksSoFar entries (n + 1) more
+pub tasks_more : (entries : List Data) (n : ℕ) (tasks more : List Task) (datum : Data) → TasksSoFar entries n tasks
+    → slice_get entries n ≡ Some datum → IsRightTask tasks datum → more ≡ tasks ++ entry_tasks datum
+    → TasksSoFar entries (n + 1) more
 tasks_more entries n tasks more datum so_far at right more_is = record {
   within = let low = slice_get_within entries n datum at in omega arith;
   tasks_are = more_is ∙ ap (λ first. first ++ entry_tasks datum) so_far.tasks_are ∙ sym (more_made entry_tasks entries n datum at);

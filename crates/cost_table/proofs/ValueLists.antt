@@ -13,5 +13,6 @@ abbrev pub before_all : List ℤ → Option (List ℤ) → Option (List ℤ)
 before_all made left = option_map (λ more. made ++ more) left
 
 -- the numbers of an array's values
-pub numbers_told : (datum : Data) (vs : List Value) → as_array datum ≡ Some (items_view vs) → numbers_in datum ≡ numbers_of (map view vs)
+pub numbers_told : (datum : Data) (vs : List Value) → as_array datum ≡ Some (items_view vs)
+    → numbers_in datum ≡ numbers_of (map view vs)
 numbers_told datum vs e = rw (e, list_of_view vs) refl

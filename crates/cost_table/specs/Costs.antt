@@ -112,7 +112,8 @@ abbrev pub told_cost : NumberedProgram → ℕ → List Data → ℕ → ℕ →
 told_cost program default entries f b = unwrap_or (last_cost program f b entries) default
 
 -- the table has these costs, for each block of each function
-pub record IsCostTable (program : NumberedProgram) (default : ℕ) (entries : List Data) (table : CostTable) : Type 0 where
+pub record IsCostTable (program : NumberedProgram) (default : ℕ) (entries : List Data)
+    (table : CostTable) : Type 0 where
   pub rows : HasRows program table
   pub others : table.others ≡ default
   pub gives : (f b : ℕ) → cost_at table f b ≡ told_cost program default entries f b

@@ -2,7 +2,8 @@
 --   Judging          when an entry is right, and what is wrong with one, by its number and the entries before it
 --   AllRight judging entries            each entry is right
 --   IsFirstFault judging entries fault  the fault is one of an entry, and the entries before it are right
--- What an entry must have: what its keys tell, if it has its keys; that the numbers in it are in range; and that what it names is there.
+-- What an entry must have: what its keys tell, if it has its keys; that the numbers in it are in range; and that what
+-- it names is there.
 --   IsRightEntry told InRange IsThere datum           it has all of these
 --   IsWrongEntry told InRange IsThere k datum fault   the fault of entry k is that of the first that it has not
 use Rattle.std.specs.Prelude.{◌≡◌, ◌<◌, ℕ, List, Option, Some, None, slice_get, take}
@@ -34,7 +35,8 @@ pub record IsFirstFault (judging : Judging) (entries : List Data) (fault : Table
 -- ---- what an entry must have
 
 -- it has its keys, its numbers are in range, and what it names is there
-pub record IsRightEntry {E : Type 0} (told : Data → Option E) (InRange IsThere : E → Type 0) (datum : Data) : Type 0 where
+pub record IsRightEntry {E : Type 0} (told : Data → Option E) (InRange IsThere : E → Type 0)
+    (datum : Data) : Type 0 where
   pub entry : E
   pub has_keys : told datum ≡ Some entry
   pub in_range : InRange entry
@@ -47,14 +49,16 @@ pub record IsOutOfRange {E : Type 0} (told : Data → Option E) (InRange : E →
   pub out : ¬ InRange entry
 
 -- it has its keys and its numbers are in range, and what it names is not there
-pub record NamesNothing {E : Type 0} (told : Data → Option E) (InRange IsThere : E → Type 0) (datum : Data) : Type 0 where
+pub record NamesNothing {E : Type 0} (told : Data → Option E) (InRange IsThere : E → Type 0)
+    (datum : Data) : Type 0 where
   pub entry : E
   pub has_keys : told datum ≡ Some entry
   pub in_range : InRange entry
   pub lacks : ¬ IsThere entry
 
 -- what is wrong with entry k, in the order of tests
-abbrev pub IsWrongEntry : {E : Type 0} → (Data → Option E) → (E → Type 0) → (E → Type 0) → ℕ → Data → TableFault → Type 0
+abbrev pub IsWrongEntry : {E : Type 0} → (Data → Option E) → (E → Type 0) → (E → Type 0) → ℕ → Data → TableFault
+    → Type 0
 IsWrongEntry told InRange IsThere k datum (faults.Key place) = (place ≡ Some k) × (told datum ≡ None)
 IsWrongEntry told InRange IsThere k datum (faults.Range place) = (place ≡ k) × IsOutOfRange told InRange datum
 IsWrongEntry told InRange IsThere k datum (faults.NoSuchCell place) = (place ≡ k) × NamesNothing told InRange IsThere datum

@@ -1,5 +1,5 @@
--- Files of entries.
--- The top gives the entries of a document, or none where a key at the top is at fault; the judging says what entries are right.
+-- Files of entries. The top gives the entries of a document, or none where a key at the top is at fault; the judging
+-- says what entries are right.
 --   HasEntries bytes top entries    the file is a document with these entries
 --   HasWrongTop bytes top           the file is a document, and a key at the top is at fault
 --   Refuses bytes top judging fault the file is refused for this fault
@@ -23,7 +23,8 @@ pub record HasWrongTop (bytes : List ℕ) (top : Members → Option (List Data))
   pub untold : top members ≡ None
 
 -- the fault is that of the first entry that is not right
-pub record HasWrongEntry (bytes : List ℕ) (top : Members → Option (List Data)) (judging : Judging) (fault : TableFault) : Type 0 where
+pub record HasWrongEntry (bytes : List ℕ) (top : Members → Option (List Data)) (judging : Judging)
+    (fault : TableFault) : Type 0 where
   pub entries : List Data
   pub told : HasEntries bytes top entries
   pub first : IsFirstFault judging entries fault

@@ -160,4 +160,5 @@ pub record MeansTasks (bytes : List ℕ) (tasks : List Task) : Type 0 where
 -- the file has more than 64 entries, or else it is no document, or has a key fault at the top, or the fault of an entry
 pub data RefusesTasks (bytes : List ℕ) : TableFault → Type 0 where
   TooMany : HasTooMany bytes → RefusesTasks bytes (faults.Limit which.Tasks 65)
-  Otherwise : (fault : TableFault) → ¬ HasTooMany bytes → Refuses bytes task_entries task_judging fault → RefusesTasks bytes fault
+  Otherwise : (fault : TableFault) → ¬ HasTooMany bytes → Refuses bytes task_entries task_judging fault
+      → RefusesTasks bytes fault

@@ -6,7 +6,8 @@ ghost use Rattle.std.specs.Option.{option_map};
 ghost use Rattle.std.specs.List.{list_all};
 ghost use Rattle.std.specs.BTreeMap.{keys};
 ghost use Rattle.toml.specs.View.{table_view, view};
-ghost use Rattle.cost_table.specs.Costs.{is_cost_key, is_cost_top, cost_entry, cost_members, cost_of, below, default_cost};
+ghost use Rattle.cost_table.specs.Costs.{is_cost_key, is_cost_top, cost_entry, cost_members, cost_of, below};
+ghost use Rattle.cost_table.specs.Costs.{default_cost};
 
 use crate::keys::{number_at, number_or, text_at};
 use toml::{Table, Value};

@@ -1,13 +1,15 @@
 //! The costs of a costs file.
 
-ghost use Rattle.std.specs.Prelude.{◌≡◌, ◌≢◌, ◌++◌, ◌∷◌, ℕ, List, [], map, IfOk, IfErr, IfSome, IfNone, OnOk, Some, None};
+ghost use Rattle.std.specs.Prelude.{◌≡◌, ◌≢◌, ◌++◌, ◌∷◌, ℕ, List, [], map, IfOk, IfErr, IfSome, IfNone, OnOk, Some};
+ghost use Rattle.std.specs.Prelude.{None};
 ghost use Rattle.toml.specs.Data.{Data};
 ghost use Rattle.toml.specs.View.{table_view, view};
 ghost use Rattle.alf_check.specs.CheckedPrograms.{seen};
 ghost use Rattle.cost_table.specs.declared.fault.TableFault.TheVariants.{Memory};
 ghost use Rattle.cost_table.specs.Entries.{AllRight, IsFirstFault};
 ghost use Rattle.cost_table.specs.CostTables.{HasRows};
-ghost use Rattle.cost_table.specs.Costs.{default_cost, cost_entries, cost_judging, IsCostTable, IsRightCost, IsWrongCost, MeansCosts, RefusesCosts};
+ghost use Rattle.cost_table.specs.Costs.{default_cost, cost_entries, cost_judging, IsCostTable, IsRightCost};
+ghost use Rattle.cost_table.specs.Costs.{IsWrongCost, MeansCosts, RefusesCosts};
 
 use crate::block_costs::Costs;
 use crate::blocks::block_named;
@@ -67,7 +69,8 @@ fn all_costs(
 ) -> Result<Costs, TableFault>
     ensures right { OnOk result (AllRight (cost_judging (seen checked.now)) (map view values.now)) }
     ensures all { IfOk result (λ costs. IsCostTable (seen checked.now) default (map view values.now) costs) }
-    ensures first { IfErr result (λ fault. fault ≢ Memory → IsFirstFault (cost_judging (seen checked.now)) (map view values.now) fault) }
+    ensures first { IfErr result
+        (λ fault. fault ≢ Memory → IsFirstFault (cost_judging (seen checked.now)) (map view values.now) fault) }
 {
     let Some(count) = entry_count(values) else {
         return Err(TableFault::Memory);
@@ -90,8 +93,11 @@ fn add_cost(
 ) -> Result<(), TableFault>
     requires { HasRows (seen checked.now) costs.old }
     ensures right { OnOk result (IsRightCost (seen checked.now) (view value.now)) }
-    ensures more { OnOk result ((default : ℕ) (before : List Data) → IsCostTable (seen checked.now) default before costs.old → IsCostTable (seen checked.now) default (before ++ view value.now ∷ []) costs.new) }
-    ensures wrong { IfErr result (λ fault. fault ≢ Memory → IsWrongCost (seen checked.now) place (view value.now) fault) }
+    ensures more { OnOk result
+        ((default : ℕ) (before : List Data) → IsCostTable (seen checked.now) default before costs.old
+        → IsCostTable (seen checked.now) default (before ++ view value.now ∷ []) costs.new) }
+    ensures wrong { IfErr result
+        (λ fault. fault ≢ Memory → IsWrongCost (seen checked.now) place (view value.now) fault) }
 {
     let Some((name, told)) = cost_entry(value) else {
         return Err(TableFault::Key(Some(place)));

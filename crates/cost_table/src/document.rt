@@ -13,7 +13,8 @@ use toml::Table;
 // The document's table.
 pub fn document(alloc: Global, bytes: &[u8]) -> Result<Table, TableFault>
     ensures read { IfOk result (λ table. IsDocument bytes.now (table_view table)) }
-    ensures refused { IfErr result (λ fault. fault ≢ Memory → (fault ≡ Toml) × ((ms : Members) → ¬ IsDocument bytes.now ms)) }
+    ensures refused { IfErr result
+        (λ fault. fault ≢ Memory → (fault ≡ Toml) × ((ms : Members) → ¬ IsDocument bytes.now ms)) }
 {
     match toml::table_from_slice(alloc, bytes) {
         Ok(table) => Ok(table),

@@ -8,7 +8,8 @@ ghost use Rattle.std.specs.Prelude.{string_bytes};
 ghost use Rattle.alf_faults.specs.Sizes.{is_export_size};
 ghost use Rattle.toml.specs.View.{table_view, view};
 ghost use Rattle.std.specs.BTreeMap.{keys};
-ghost use Rattle.cost_table.specs.Inputs.{is_input_key, is_input_top, input_entry, input_members, HasRange, IsInRange, IsRun};
+ghost use Rattle.cost_table.specs.Inputs.{is_input_key, is_input_top, input_entry, input_members, HasRange, IsInRange};
+ghost use Rattle.cost_table.specs.Inputs.{IsRun};
 
 use crate::keys::{number_at, number_or, text_at};
 use toml::{Table, Value};
@@ -110,7 +111,9 @@ fn input_members(table: &Table) -> Option<(&str, Cells)>
 
 // The width of a cell of so many bits.
 fn width_of(size: i64) -> Option<Width>
-    ensures some { IfSome result (λ width. (size ≡ pos width.bits) × (is_export_size width.bits ≡ true) × (width.words ≡ pos (2 ^ width.bits)) × (width.half ≡ pos (2 ^ (width.bits - 1)))) }
+    ensures some { IfSome result
+        (λ width. (size ≡ pos width.bits) × (is_export_size width.bits ≡ true) × (width.words ≡ pos (2 ^ width.bits))
+        × (width.half ≡ pos (2 ^ (width.bits - 1)))) }
     ensures none { IfNone result ((bits : ℕ) → is_export_size bits ≡ true → size ≢ pos bits) }
 {
     let (bits, words) = match size {

@@ -1,6 +1,7 @@
 //! The rows of an inputs file.
 
-ghost use Rattle.std.specs.Prelude.{◌≡◌, ◌≢◌, ◌<◌, ◌≤◌, ◌+◌, ◌*◌, ◌++◌, ◌/◌, ℕ, [], length, map, IfOk, IfErr, IfSome, IfNone, OnOk, Some, true, pos, slice_get};
+ghost use Rattle.std.specs.Prelude.{◌≡◌, ◌≢◌, ◌<◌, ◌≤◌, ◌+◌, ◌*◌, ◌++◌, ◌/◌, ℕ, [], length, map, IfOk, IfErr, IfSome};
+ghost use Rattle.std.specs.Prelude.{IfNone, OnOk, Some, true, pos, slice_get};
 ghost use lib.Signed.{◌≤ℤ◌, ◌<ℤ◌};
 ghost use Rattle.alf_faults.specs.Sizes.{is_export_size};
 ghost use Rattle.std.specs.Bool.{OnTrue, OnFalse};
@@ -10,7 +11,8 @@ ghost use Rattle.alf_check.specs.CheckedPrograms.{seen};
 ghost use Rattle.alf_check.specs.Inputs.{KeepInputs};
 ghost use Rattle.cost_table.specs.declared.fault.TableFault.TheVariants.{Memory};
 ghost use Rattle.cost_table.specs.Entries.{AllRight, IsFirstFault};
-ghost use Rattle.cost_table.specs.Inputs.{IsRun, LiesIn, first_row, entry_rows, rows_in, input_judging, input_entries, IsRightInput, IsWrongInput, MeansInputs, RefusesInputs};
+ghost use Rattle.cost_table.specs.Inputs.{IsRun, LiesIn, first_row, entry_rows, rows_in, input_judging, input_entries};
+ghost use Rattle.cost_table.specs.Inputs.{IsRightInput, IsWrongInput, MeansInputs, RefusesInputs};
 ghost use Rattle.cost_table.specs.Marks.{AreMarks, IsMarkedIn, MarksIn, start_of, end_of};
 
 use crate::document::document;
@@ -67,7 +69,8 @@ fn all_rows(alloc: Global, checked: &Checked, values: &[Value]) -> Result<Vec<In
     ensures right { OnOk result (AllRight (input_judging (seen checked.now)) (map view values.now)) }
     ensures all { IfOk result (λ rows. rows.items ≡ rows_in (seen checked.now) (map view values.now)) }
     ensures keep { IfOk result (λ rows. KeepInputs (seen checked.now) rows.items) }
-    ensures first { IfErr result (λ fault. fault ≢ Memory → IsFirstFault (input_judging (seen checked.now)) (map view values.now) fault) }
+    ensures first { IfErr result
+        (λ fault. fault ≢ Memory → IsFirstFault (input_judging (seen checked.now)) (map view values.now) fault) }
 {
     let Some(count) = entry_count(values) else {
         return Err(TableFault::Memory);
@@ -112,7 +115,8 @@ fn add_entry(
     ensures keep { OnOk result (KeepInputs (seen checked.now) rows.new.items) }
     ensures same_length { OnOk result (length marks.new ≡ length marks.old) }
     ensures marked { OnOk result (AreMarks rows.new.items marks.new) }
-    ensures wrong { IfErr result (λ fault. fault ≢ Memory → IsWrongInput (seen checked.now) rows.old.items place (view value.now) fault) }
+    ensures wrong { IfErr result
+        (λ fault. fault ≢ Memory → IsWrongInput (seen checked.now) rows.old.items place (view value.now) fault) }
 {
     checked.keeps();
     let Some((name, cells)) = input_entry(value) else {
@@ -136,7 +140,8 @@ fn add_entry(
 // The row of the first cell, if all cells lie in their frame.
 fn first_cell(checked: &Checked, name: &str, cells: &Cells, run: Run) -> Option<InputRow>
     requires { IsRun cells.now run }
-    ensures lies { IfSome result (λ row. LiesIn (seen checked.now) (name.now, cells.now) row.frame × (row ≡ first_row cells.now row.frame)) }
+    ensures lies { IfSome result
+        (λ row. LiesIn (seen checked.now) (name.now, cells.now) row.frame × (row ≡ first_row cells.now row.frame)) }
     ensures none { IfNone result ((f : ℕ) → ¬ LiesIn (seen checked.now) (name.now, cells.now) f) }
 {
     checked.keeps();
@@ -192,7 +197,9 @@ fn take(marks: &mut [bool], row: InputRow, count: u32) -> bool
     requires frame { row.frame < 256 }
     requires cells { row.offset + count * (row.size / 8) ≤ 65536 }
     requires within { end_of row count ≤ length marks.old }
-    ensures taken { OnTrue result (MarksIn marks.old marks.new (start_of row) (end_of row count) × ¬ IsMarkedIn marks.old (start_of row) (end_of row count)) }
+    ensures taken { OnTrue result
+        (MarksIn marks.old marks.new (start_of row) (end_of row count)
+        × ¬ IsMarkedIn marks.old (start_of row) (end_of row count)) }
     ensures met { OnFalse result (IsMarkedIn marks.old (start_of row) (end_of row count)) }
 {
     let from = row.frame as usize * 65536 + row.offset as usize;

@@ -1,6 +1,7 @@
 //! What the definitions promise, as functions that do nothing when they are called.
 
-ghost use Rattle.cost_table.specs.Laws.{InputsHaveOneAnswer, CostsHaveOneAnswer, RowsKeepTheRules, TasksHaveOneAnswer, TasksAreTaskSets, ValuesHaveOneAnswer};
+ghost use Rattle.cost_table.specs.Laws.{InputsHaveOneAnswer, CostsHaveOneAnswer, RowsKeepTheRules, TasksHaveOneAnswer};
+ghost use Rattle.cost_table.specs.Laws.{TasksAreTaskSets, ValuesHaveOneAnswer};
 
 /// For a program an inputs file means one list of rows, or is refused for one fault, and not both; and a
 /// costs file one table or one fault. The rows keep the rules that runs ask of rows. Does nothing when it

@@ -7,7 +7,8 @@ ghost use Rattle.std.specs.BTreeMap.{keys};
 ghost use Rattle.toml.specs.Data.{get_member};
 ghost use Rattle.toml.specs.View.{table_view, view};
 ghost use Rattle.cost_table.specs.declared.fault.TableFault.TheVariants.{Memory};
-ghost use Rattle.cost_table.specs.RunValues.{MeansValues, RefusesValues, is_value_top, numbers_in, numbers_of, told_values};
+ghost use Rattle.cost_table.specs.RunValues.{MeansValues, RefusesValues, is_value_top, numbers_in, numbers_of};
+ghost use Rattle.cost_table.specs.RunValues.{told_values};
 
 use crate::document::document;
 use crate::fault::TableFault;
@@ -54,7 +55,9 @@ fn told(alloc: Global, table: &Table) -> Result<Option<Vec<i64>>, AllocError>
 
 // The whole numbers of the array at `values`.
 fn numbers_at(alloc: Global, table: &Table) -> Result<Option<Vec<i64>>, AllocError>
-    ensures { IfOk result (λ told. option_map (λ numbers. numbers.items) told ≡ option_and_then numbers_in (get_member (codes "values") (table_view table.now))) }
+    ensures { IfOk result
+        (λ told. option_map (λ numbers. numbers.items) told
+        ≡ option_and_then numbers_in (get_member (codes "values") (table_view table.now))) }
 {
     match table.get("values") {
         Some(value) => numbers_in(alloc, value),

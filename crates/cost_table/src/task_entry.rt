@@ -5,7 +5,8 @@ ghost use Rattle.std.specs.Option.{option_map};
 ghost use Rattle.std.specs.List.{list_all};
 ghost use Rattle.std.specs.BTreeMap.{keys};
 ghost use Rattle.toml.specs.View.{table_view, view};
-ghost use Rattle.cost_table.specs.TaskFiles.{is_task_key, is_task_top, task_entry, task_members, AreInRange, HasNumbers, IsFrom, IsNameByte, IsTaskName};
+ghost use Rattle.cost_table.specs.TaskFiles.{is_task_key, is_task_top, task_entry, task_members, AreInRange};
+ghost use Rattle.cost_table.specs.TaskFiles.{HasNumbers, IsFrom, IsNameByte, IsTaskName};
 
 use crate::keys::{number_at, text_at};
 use crate::task_set::Task;

@@ -6,7 +6,8 @@ ghost use Rattle.toml.specs.View.{table_view, view};
 ghost use Rattle.cost_table.specs.declared.fault.TableFault.TheVariants.{Memory};
 ghost use Rattle.cost_table.specs.Entries.{AllRight, IsFirstFault};
 ghost use Rattle.cost_table.specs.Tasks.{AreTasks};
-ghost use Rattle.cost_table.specs.TaskFiles.{IsRightTask, IsWrongTask, MeansTasks, RefusesTasks, entry_tasks, task_entries, task_judging, tasks_in};
+ghost use Rattle.cost_table.specs.TaskFiles.{IsRightTask, IsWrongTask, MeansTasks, RefusesTasks, entry_tasks};
+ghost use Rattle.cost_table.specs.TaskFiles.{task_entries, task_judging, tasks_in};
 
 use crate::document::document;
 use crate::fault::TableFault;

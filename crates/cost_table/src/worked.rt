@@ -18,7 +18,8 @@ pub fn the_last_entry_tells_a_cost()
     ensures too_great { default_cost (of_default (pos 4294967296)) ≡ None }
     ensures negative { default_cost (of_default (negsuc 0)) ≡ None }
     ensures silent { told_cost one_block 7 [] 0 0 ≡ 7 }
-    ensures last { told_cost one_block 7 (cost_of_entry (codes "f") (pos 0) (pos 4) ∷ cost_of_entry (codes "f") (pos 0) (pos 5) ∷ []) 0 0 ≡ 5 }
+    ensures last { told_cost one_block 7
+        (cost_of_entry (codes "f") (pos 0) (pos 4) ∷ cost_of_entry (codes "f") (pos 0) (pos 5) ∷ []) 0 0 ≡ 5 }
 {}
 
 /// A range has its ends among the signed and the unsigned words of the size, and no more numbers than
@@ -44,13 +45,18 @@ pub fn globals_and_arguments_are_inputs()
 /// What stands at a key has the kind that is wanted there; entries are tables in a row, and none where their key
 /// is absent.
 pub fn keys_have_their_kinds()
-    ensures number { number_at (codes "k") (member (codes "j") (integer (pos 1)) (member (codes "k") (integer (pos 2)) no_members)) ≡ Some (pos 2) }
+    ensures number { number_at (codes "k")
+        (member (codes "j") (integer (pos 1)) (member (codes "k") (integer (pos 2)) no_members)) ≡ Some (pos 2) }
     ensures no_number { number_at (codes "k") (member (codes "k") (string (codes "2")) no_members) ≡ None }
     ensures text { text_at (codes "k") (member (codes "k") (string (codes "2")) no_members) ≡ Some (codes "2") }
     ensures absent { entries_at (codes "e") (member (codes "k") (integer (pos 1)) no_members) ≡ Some [] }
-    ensures tables { entries_at (codes "e") (member (codes "e") (array (item (table no_members) (item (table no_members) no_items))) no_members) ≡ Some (table no_members ∷ table no_members ∷ []) }
-    ensures no_table { entries_at (codes "e") (member (codes "e") (array (item (table no_members) (item (integer (pos 1)) no_items))) no_members) ≡ None }
-    ensures all_keys { only_keys (bytes_eq (codes "k")) (member (codes "k") (integer (pos 1)) (member (codes "j") (integer (pos 1)) no_members)) ≡ false }
+    ensures tables { entries_at (codes "e")
+        (member (codes "e") (array (item (table no_members) (item (table no_members) no_items))) no_members)
+        ≡ Some (table no_members ∷ table no_members ∷ []) }
+    ensures no_table { entries_at (codes "e")
+        (member (codes "e") (array (item (table no_members) (item (integer (pos 1)) no_items))) no_members) ≡ None }
+    ensures all_keys { only_keys (bytes_eq (codes "k"))
+        (member (codes "k") (integer (pos 1)) (member (codes "j") (integer (pos 1)) no_members)) ≡ false }
 {}
 
 /// Every block costs 1 where no file is named, and what is not in a table costs as the others.

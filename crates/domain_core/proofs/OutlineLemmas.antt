@@ -25,7 +25,8 @@ module _ (o : Shape) (ok : IsOutline o) where
   scopes_nested s t n in_s in_t = leads_compare o.scopes s t (get_or o.own n 0) in_s in_t
 
   -- an edge to a node goes to a greater rank, unless it is a back edge
-  pub forward_rises : (u v : ℕ) → IsForwardEdge (IsEdge o.edges) u v → v < length o.own → get_or o.ranks u 0 < get_or o.ranks v 0
+  pub forward_rises : (u v : ℕ) → IsForwardEdge (IsEdge o.edges) u v → v < length o.own
+      → get_or o.ranks u 0 < get_or o.ranks v 0
   forward_rises u v (edge, forward) low =
       elim (cases_lt (get_or o.ranks u 0) (get_or o.ranks v 0)) [
         | inl rise ↦ rise

@@ -11,7 +11,8 @@ use Rattle.domain_core.specs.Reducible.{IsReducible, IsCrossing}
 -- ---- three walks that cross
 
 -- a node that stands before h is not h and stands nowhere after it
-apart : (prefix rest : List ℕ) (h d : ℕ) → IsDistinct (prefix ++ h ∷ rest) → Contains prefix d → Contains (h ∷ rest) d → ⊥
+apart : (prefix rest : List ℕ) (h d : ℕ) → IsDistinct (prefix ++ h ∷ rest) → Contains prefix d → Contains (h ∷ rest) d
+    → ⊥
 apart [] rest h d once earlier later = no_member d earlier
 apart (x ∷ prefix) rest h d once earlier later =
     elim (contains_cases x prefix d earlier) [
@@ -21,7 +22,8 @@ apart (x ∷ prefix) rest h d once earlier later =
     ]
 
 -- a graph with three such walks is not reducible
-pub crossing_irreducible : (Leads : ℕ → ℕ → Type 0) (to_header to_tail around : List ℕ) → IsCrossing Leads to_header to_tail around → IsReducible Leads → ⊥
+pub crossing_irreducible : (Leads : ℕ → ℕ → Type 0) (to_header to_tail around : List ℕ)
+    → IsCrossing Leads to_header to_tail around → IsReducible Leads → ⊥
 crossing_irreducible Leads to_header to_tail around c reducible =
     let r = reducible c.u c.h to_tail c.to_u c.leads_back in
     let d = r.0 in

@@ -14,10 +14,12 @@ use Rattle.domain_core.specs.WordSets.{WordSets, IsWordSets, HaveSizes, HaveWord
 
 module _ {D : Type 0} (order : Order D) (ordered : IsOrder D order) (sets : WordSets D) (laws : IsWordSets D order sets) where
   -- a join has the words of both sides
-  pub joined_left : (a b : D) (x : ℕ) → sets.kept a → sets.kept b → sets.size_of a ≡ sets.size_of b → sets.covers a x → sets.covers (order.joined a b) x
+  pub joined_left : (a b : D) (x : ℕ) → sets.kept a → sets.kept b → sets.size_of a ≡ sets.size_of b → sets.covers a x
+      → sets.covers (order.joined a b) x
   joined_left a b x of_a of_b same there = laws.above a (order.joined a b) x (ordered.left a b (laws.alike a b of_a of_b same)) there
 
-  pub joined_right : (a b : D) (x : ℕ) → sets.kept a → sets.kept b → sets.size_of a ≡ sets.size_of b → sets.covers b x → sets.covers (order.joined a b) x
+  pub joined_right : (a b : D) (x : ℕ) → sets.kept a → sets.kept b → sets.size_of a ≡ sets.size_of b → sets.covers b x
+      → sets.covers (order.joined a b) x
   joined_right a b x of_a of_b same there = laws.above b (order.joined a b) x (ordered.right a b (laws.alike a b of_a of_b same)) there
 
   -- an answer that gives a word is not None
@@ -25,7 +27,8 @@ module _ {D : Type 0} (order : Order D) (ordered : IsOrder D order) (sets : Word
   gives_some answer x gives none = let bad : Some gives.0 ≡ None = sym gives.1 ∙ none in cc
 
   -- where nothing is kept, no word is in the relation
-  pub assumed_none : (rel : Rel) (a b : D) (x y : ℕ) → sets.kept a → sets.kept b → sets.size_of a ≡ sets.size_of b → sets.assumed rel a b ≡ None
+  pub assumed_none : (rel : Rel) (a b : D) (x y : ℕ) → sets.kept a → sets.kept b → sets.size_of a ≡ sets.size_of b
+      → sets.assumed rel a b ≡ None
       → sets.covers a x → sets.covers b y → Related rel (sets.size_of a) x y → ⊥
   assumed_none rel a b x y of_a of_b same none in_a in_b related = gives_some (sets.assumed rel a b) x ((laws.assumed rel a b of_a of_b same).covering x y in_a in_b related) none
 
@@ -34,7 +37,8 @@ module _ {D : Type 0} (order : Order D) (ordered : IsOrder D order) (sets : Word
   only_none d x of_d none there = gives_some (sets.only d x) x ((laws.only d x of_d).covering there) none
 
   -- where there is no value, no choice of words does not divide by 0
-  pub applied_none : (op : Op) (sizes : List ℕ) (args : List D) (xs : List ℕ) → IsSome (result_size op sizes) → HaveSizes sets (operand_sizes op sizes) args → AreKept sets args
+  pub applied_none : (op : Op) (sizes : List ℕ) (args : List D) (xs : List ℕ) → IsSome (result_size op sizes)
+      → HaveSizes sets (operand_sizes op sizes) args → AreKept sets args
       → (sets.applied op sizes args).value ≡ None → HaveWords sets args xs → (DividesByZero op xs → ⊥) → ⊥
   applied_none op sizes args xs typed sized of_args none words divides =
       gives_some (sets.applied op sizes args).value _ ((laws.applied op sizes args typed sized of_args).covering xs words divides) none

@@ -11,13 +11,15 @@ use Rattle.domain_core.specs.Executions.{IsExecution, executions, turns_after, t
 
 module _ (o : Shape) (ok : IsOutline o) (t : ℕ) where
   -- an execution that is found is one of the run
-  pub found_execution : (past e : List ℕ) → Contains (executions o t past) e → IsExecution o t (reverse past) (reverse e)
+  pub found_execution : (past e : List ℕ) → Contains (executions o t past) e
+      → IsExecution o t (reverse past) (reverse e)
   found_execution past e there =
       stretch_turned (λ n. Holds o t n) past e
       (stretch_same (Passes (λ n. is_held o t n)) (λ n. Holds o t n) (λ n. held_is o ok t n) (λ n. is_holder o ok t n) past e (found_stretch (λ n. is_held o t n) past e there))
 
   -- and each one is found
-  pub execution_found : (past e : List ℕ) → IsExecution o t (reverse past) (reverse e) → Contains (executions o t past) e
+  pub execution_found : (past e : List ℕ) → IsExecution o t (reverse past) (reverse e)
+      → Contains (executions o t past) e
   execution_found past e is =
       let turned = stretch_turned (λ n. Holds o t n) (reverse past) (reverse e) is in
       let back : IsStretch (λ n. Holds o t n) past e = subst (λ (xs : List ℕ). IsStretch (λ n. Holds o t n) past xs) (reverse-reverse e) (subst (λ (xs : List ℕ). IsStretch (λ n. Holds o t n) xs (reverse (reverse e))) (reverse-reverse past) turned) in

@@ -26,7 +26,8 @@ is_new set Dead = refl
 is_new set Kind = refl
 is_new set Pointers = refl
 
-pub is_kept : (set : FaultSet) (kind other : RunFault) → kind ≢ other → has_fault (with_fault set kind) other ≡ has_fault set other
+pub is_kept : (set : FaultSet) (kind other : RunFault) → kind ≢ other
+    → has_fault (with_fault set kind) other ≡ has_fault set other
 is_kept set Divide Divide apart = absurd (apart refl)
 is_kept set Divide Uninit apart = refl
 is_kept set Divide Mixed apart = refl
@@ -77,7 +78,8 @@ is_kept set Pointers Dead apart = refl
 is_kept set Pointers Kind apart = refl
 is_kept set Pointers Pointers apart = absurd (apart refl)
 
-pub is_united : (a b : FaultSet) (kind : RunFault) → has_fault (either a b) kind ≡ (has_fault a kind || has_fault b kind)
+pub is_united : (a b : FaultSet) (kind : RunFault)
+    → has_fault (either a b) kind ≡ (has_fault a kind || has_fault b kind)
 is_united a b Divide = refl
 is_united a b Uninit = refl
 is_united a b Mixed = refl

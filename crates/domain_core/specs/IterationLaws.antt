@@ -53,7 +53,8 @@ module _ (o : Shape) (ok : IsOutline o) (t : ℕ) where
   is_begins n is = sym (eqb-true (header_of o.scopes t) n (right_passes (is_held o t n) (is_header o t n) is))
 
   -- each iteration of the run is found
-  pub iteration_found : (past p : List ℕ) → IsIteration o t (reverse past) (reverse p) → Contains (iterations o t past) p
+  pub iteration_found : (past p : List ℕ) → IsIteration o t (reverse past) (reverse p)
+      → Contains (iterations o t past) p
   iteration_found past p s = part_found (λ n. begins_at o t n) (λ n. goes_on_at o t n) tests_apart past p (record {
     newer = reverse (s.later ++ s.of.later);
     others = reverse s.others;
@@ -94,7 +95,8 @@ module _ (o : Shape) (ok : IsOutline o) (t : ℕ) where
           subst (λ (xs : List ℕ). Contains xs n) (sym execution_is)
           (Contains-append_right s.earlier (header ∷ s.others ++ s.later) n (further_member header (s.others ++ s.later) n (Contains-append_left s.others s.later n there)))
 
-      stops : (later : List ℕ) → s.later ≡ later → (n : ℕ) (rest : List ℕ) → s.later ++ s.of.later ≡ n ∷ rest → goes_on_at o t n ≡ true → ⊥
+      stops : (later : List ℕ) → s.later ≡ later → (n : ℕ) (rest : List ℕ) → s.later ++ s.of.later ≡ n ∷ rest
+          → goes_on_at o t n ≡ true → ⊥
       stops [] none n rest e on = s.of.ends n rest (ap (λ (xs : List ℕ). xs ++ s.of.later) (sym none) ∙ e) (is_goes n on).0
       stops (m ∷ later) some n rest e on =
           let both : m ∷ later ++ s.of.later ≡ n ∷ rest = ap (λ (xs : List ℕ). xs ++ s.of.later) (sym some) ∙ e in
@@ -102,13 +104,15 @@ module _ (o : Shape) (ok : IsOutline o) (t : ℕ) where
           s.ends m later some (subst (λ (k : ℕ). k ≡ header → ⊥) (sym same) (is_goes n on).1)
 
   -- and what is found is an iteration of the run
-  pub found_iteration : (past p : List ℕ) → Contains (iterations o t past) p → IsIteration o t (reverse past) (reverse p)
+  pub found_iteration : (past p : List ℕ) → Contains (iterations o t past) p
+      → IsIteration o t (reverse past) (reverse p)
   found_iteration past p there = from_part (found_part (λ n. begins_at o t n) (λ n. goes_on_at o t n) tests_apart past p there)
     where
       held_test : ℕ → Bool
       held_test n = is_held o t n
 
-      from_part : IsPart (Passes (λ n. begins_at o t n)) (Passes (λ n. goes_on_at o t n)) past p → IsIteration o t (reverse past) (reverse p)
+      from_part : IsPart (Passes (λ n. begins_at o t n)) (Passes (λ n. goes_on_at o t n)) past p
+          → IsIteration o t (reverse past) (reverse p)
       from_part s = record {
         execution = execution;
         of = record {

@@ -47,15 +47,19 @@ pub record IsMachine (T C : Type 0) (order : Order T) (m : Machine T C) : Type 0
   pub above_covers : (t u : T) (c : C) → order.under t u → m.covers t c → m.covers u c
   -- each start, next point, end and fault is covered
   pub first_covers : (c : C) → m.system.starts c → m.covers m.first c
-  pub next_covers : (n k : ℕ) (t : T) (c d : C) → m.fits n t → m.covers t c → m.system.goes n c k d → (u : T) × Contains (m.next n t) (k, u) × m.covers u d
-  pub end_follows : (n : ℕ) (t : T) (c : C) → m.fits n t → m.covers t c → m.system.ends n c → (u : T) × Contains (m.next n t) (m.exit, u)
-  pub fault_told : (n : ℕ) (t : T) (c : C) (kind : RunFault) → m.fits n t → m.covers t c → m.system.fails n c kind → has_fault (m.faults n t) kind ≡ true
+  pub next_covers : (n k : ℕ) (t : T) (c d : C) → m.fits n t → m.covers t c → m.system.goes n c k d
+      → (u : T) × Contains (m.next n t) (k, u) × m.covers u d
+  pub end_follows : (n : ℕ) (t : T) (c : C) → m.fits n t → m.covers t c → m.system.ends n c
+      → (u : T) × Contains (m.next n t) (m.exit, u)
+  pub fault_told : (n : ℕ) (t : T) (c : C) (kind : RunFault) → m.fits n t → m.covers t c → m.system.fails n c kind
+      → has_fault (m.faults n t) kind ≡ true
   -- a sharp state has exactly the concrete successor, or no successor and exactly the concrete fault
   pub sharp_covers : (t : T) (c : C) → m.sharp t c → m.covers t c
   pub first_sharp : (c : C) → m.system.starts c → ((d : C) → m.system.starts d → d ≡ c) → m.sharp m.first c
   pub next_sharp : (n k : ℕ) (t : T) (c d : C) → m.fits n t → m.sharp t c → m.system.goes n c k d
       → (u : T) × (m.next n t ≡ (k, u) ∷ []) × (m.faults n t ≡ no_faults) × m.sharp u d
-  pub end_sharp : (n : ℕ) (t : T) (c : C) → m.fits n t → m.sharp t c → m.system.ends n c → (u : T) × (m.next n t ≡ (m.exit, u) ∷ []) × (m.faults n t ≡ no_faults)
+  pub end_sharp : (n : ℕ) (t : T) (c : C) → m.fits n t → m.sharp t c → m.system.ends n c
+      → (u : T) × (m.next n t ≡ (m.exit, u) ∷ []) × (m.faults n t ≡ no_faults)
   pub fault_sharp : (n : ℕ) (t : T) (c : C) (kind : RunFault) → m.fits n t → m.sharp t c → m.system.fails n c kind
       → (m.next n t ≡ []) × (m.faults n t ≡ with_fault no_faults kind)
 

@@ -58,12 +58,14 @@ module _ (scopes : List ScopeRow) where
       ap (λ (xs : List ℕ). x ∷ xs) (chain_one p rest others more (subst (λ (n : ℕ). IsChain scopes n others) same further))
 
   -- where parents lead to a scope without a parent, there is one
-  pub chain_to : (top s : ℕ) → parent_of scopes top ≡ None → LeadsTo scopes top s → (chain : List ℕ) × IsChain scopes s chain
+  pub chain_to : (top s : ℕ) → parent_of scopes top ≡ None → LeadsTo scopes top s
+      → (chain : List ℕ) × IsChain scopes s chain
   chain_to top s none here = (top ∷ [], outermost none)
   chain_to top s none (up {s = x} {p = p} e way) = let more = chain_to top p none way in (x ∷ more.0, inner e more.1)
 
   -- a scope on a chain has a chain that is no longer
-  chain_part : (s t : ℕ) (chain : List ℕ) → IsChain scopes s chain → Contains chain t → (part : List ℕ) × IsChain scopes t part × (length part ≤ length chain)
+  chain_part : (s t : ℕ) (chain : List ℕ) → IsChain scopes s chain → Contains chain t
+      → (part : List ℕ) × IsChain scopes t part × (length part ≤ length chain)
   chain_part s t chain (outermost {s = x} top) there =
       elim (contains_cases x [] t there) [ inl e ↦ subst (λ (n : ℕ). (part : List ℕ) × IsChain scopes n part × (length part ≤ 1)) (sym e) (x ∷ [], outermost top, omega arith) | inr none ↦ no_member t none ]
   chain_part s t chain (inner {s = x} {p = p} {chain = rest} e more) there =
@@ -151,7 +153,8 @@ module _ (o : Shape) (ok : IsOutline o) where
   own_smallest t n m held other = lies_in (get_or o.own n 0) t m held other
 
   -- a walk to a node of a scope passes the header
-  walk_enters : (t n : ℕ) (path : List ℕ) → Walk (IsEdge o.edges) 0 n path → n < length o.own → Holds o t n → Contains path (header_of o.scopes t)
+  walk_enters : (t n : ℕ) (path : List ℕ) → Walk (IsEdge o.edges) 0 n path → n < length o.own → Holds o t n
+      → Contains path (header_of o.scopes t)
   walk_enters t n path stays low held =
       subst (λ (k : ℕ). Contains (0 ∷ []) k) (sym (ap (λ (s : ℕ). header_of o.scopes s) (ok.first_alone t held) ∙ ok.first_scope.0)) (first_member 0 [])
   walk_enters t n path (goes_on {u = u} {v = v} {path = before} walk edge) low held =
@@ -161,7 +164,8 @@ module _ (o : Shape) (ok : IsOutline o) where
       ]
 
   -- so the header lies on every walk to it
-  pub header_dominates : (t n : ℕ) → n < length o.own → Holds o t n → Dominates (IsEdge o.edges) (header_of o.scopes t) n
+  pub header_dominates : (t n : ℕ) → n < length o.own → Holds o t n
+      → Dominates (IsEdge o.edges) (header_of o.scopes t) n
   header_dominates t n low held path walk = walk_enters t n path walk low held
 
   -- each scope has a chain of scopes around it
@@ -169,7 +173,8 @@ module _ (o : Shape) (ok : IsOutline o) where
   chain_of s low = chain_to o.scopes 0 s ok.first_scope.2 (ok.parents_lead s low)
 
   -- a chain is no longer than there are scopes
-  pub chain_short : (s : ℕ) (chain : List ℕ) → s < length o.scopes → IsChain o.scopes s chain → length chain ≤ length o.scopes
+  pub chain_short : (s : ℕ) (chain : List ℕ) → s < length o.scopes → IsChain o.scopes s chain
+      → length chain ≤ length o.scopes
   chain_short s chain low is =
       length-le_from_distinct_below chain (length o.scopes) (chain_once o.scopes s chain is)
       (λ t found. lead_low t s (held_leads o.scopes s t chain is (found_member chain t found)) low)
@@ -181,13 +186,15 @@ module _ (o : Shape) (ok : IsOutline o) where
       first_low : 0 < length o.scopes
       first_low = let low = ok.scopes_within 0 ok.some in omega arith
 
-      each : (own : List ℕ) (k : ℕ) → ((m : ℕ) → m < length own → get_or own m 0 < length o.scopes) → get_or own k 0 < length o.scopes
+      each : (own : List ℕ) (k : ℕ) → ((m : ℕ) → m < length own → get_or own m 0 < length o.scopes)
+          → get_or own k 0 < length o.scopes
       each [] k within = first_low
       each (s ∷ own) zero within = within 0 (omega arith)
       each (s ∷ own) (suc k) within = each own k (λ m low. within (suc m) (omega arith))
 
   -- the chain of a node's own scope, as the code walks it
-  pub chain_at : (n : ℕ) → IsChain o.scopes (get_or o.own n 0) (scopes_from o.scopes (length o.scopes) (get_or o.own n 0))
+  pub chain_at : (n : ℕ)
+      → IsChain o.scopes (get_or o.own n 0) (scopes_from o.scopes (length o.scopes) (get_or o.own n 0))
   chain_at n =
       let own = own_within n in
       let r = chain_of (get_or o.own n 0) own in

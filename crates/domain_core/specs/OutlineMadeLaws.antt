@@ -18,7 +18,8 @@ use Rattle.domain_core.specs.OutlineOf.{scope_holds, scope_inside, IsParent, IsO
 
 module _ (plan : Plan) (ok : IsPlan plan) (o : Shape) (d : IsOutlineOf plan o) where
   -- parents lead to larger scopes
-  lead_inside : (t r : ℕ) → LeadsTo o.scopes t r → r < length o.scopes → scope_inside plan o.scopes r t × (t < length o.scopes)
+  lead_inside : (t r : ℕ) → LeadsTo o.scopes t r → r < length o.scopes
+      → scope_inside plan o.scopes r t × (t < length o.scopes)
   lead_inside t r here low = (λ n n_low held. held, low)
   lead_inside t r (up {s = s} {p = p} e way) low =
       let parent : IsParent plan o.scopes s (Some p) = subst (λ (x : Option ℕ). IsParent plan o.scopes s x) e (d.parents s low) in
@@ -26,16 +27,19 @@ module _ (plan : Plan) (ok : IsPlan plan) (o : Shape) (d : IsOutlineOf plan o) w
       (λ n n_low held. rest.0 n n_low (parent.2 n n_low held), rest.1)
 
   -- a scope holds, by parents, only nodes of its own
-  pub holds_is : (t n : ℕ) → n < length plan.places → Holds o t n → scope_holds plan o.scopes t n × (t < length o.scopes)
+  pub holds_is : (t n : ℕ) → n < length plan.places → Holds o t n
+      → scope_holds plan o.scopes t n × (t < length o.scopes)
   holds_is t n low held = let own = d.own n low in let more = lead_inside t (get_or o.own n 0) held own.0 in (more.0 n low own.1.holds, more.1)
 
   -- two scopes have two headers
-  headers_apart : (s t : ℕ) → s < length o.scopes → t < length o.scopes → s ≢ t → header_of o.scopes s ≢ header_of o.scopes t
+  headers_apart : (s t : ℕ) → s < length o.scopes → t < length o.scopes → s ≢ t
+      → header_of o.scopes s ≢ header_of o.scopes t
   headers_apart s t s_low t_low other e =
       elim (cases_lt s t) [ inl before ↦ let a = d.ascend s t before t_low in absurd (omega arith) | inr after ↦ let b = d.ascend t s (omega arith) s_low in absurd (omega arith) ]
 
   -- to each larger scope parents lead
-  inside_lead : (k t r : ℕ) → get_or o.ranks (header_of o.scopes r) 0 < k → t < length o.scopes → r < length o.scopes → scope_inside plan o.scopes r t → LeadsTo o.scopes t r
+  inside_lead : (k t r : ℕ) → get_or o.ranks (header_of o.scopes r) 0 < k → t < length o.scopes → r < length o.scopes
+      → scope_inside plan o.scopes r t → LeadsTo o.scopes t r
   inside_lead zero t r few t_low r_low within = absurd (omega arith)
   inside_lead (suc k) t r few t_low r_low within =
       elim (same_or_not t r) [
@@ -79,7 +83,8 @@ module _ (plan : Plan) (ok : IsPlan plan) (o : Shape) (d : IsOutlineOf plan o) w
       subst (λ (kind : ScopeKind). InScope plan kind (header_of o.scopes 0) n) (sym root_scope.2) (subst (λ (h : ℕ). InScope plan Call h n) (sym root_scope.1) all)
 
   -- the outline keeps what every outline keeps
-  pub outline_kept : ((u v : ℕ) → leads plan u v → Dominates (leads plan) v u ⊎ (Dominates (leads plan) v u → ⊥)) → length o.own < 2 ^ 32 - 1 → length o.edges < 2 ^ 32 - 1 → length o.scopes < 2 ^ 32 - 1
+  pub outline_kept : ((u v : ℕ) → leads plan u v → Dominates (leads plan) v u ⊎ (Dominates (leads plan) v u → ⊥))
+      → length o.own < 2 ^ 32 - 1 → length o.edges < 2 ^ 32 - 1 → length o.scopes < 2 ^ 32 - 1
       → AllPairs (λ e f. e ≢ f) o.edges → IsOutline o
   outline_kept decided few_nodes few_edges few_scopes once = record {
     some = (let e = d.one_each in let s = ok.some in omega arith);
@@ -128,7 +133,8 @@ module _ (plan : Plan) (ok : IsPlan plan) (o : Shape) (d : IsOutlineOf plan o) w
           let first : scope_holds plan o.scopes 0 0 = subst (λ (h : ℕ). InScope plan (kind_of o.scopes 0) (header_of o.scopes 0) h) root_scope.1 (header_held plan ok (kind_of o.scopes 0) (header_of o.scopes 0)) in
           absurd (parent.1 (first_alone p (parent.2 0 ok.some first, parent.0)))
 
-      rises : (u v : ℕ) → leads plan u v → v < length plan.places → get_or o.ranks v 0 ≤ get_or o.ranks u 0 → Dominates (leads plan) v u ⊎ (Dominates (leads plan) v u → ⊥)
+      rises : (u v : ℕ) → leads plan u v → v < length plan.places → get_or o.ranks v 0 ≤ get_or o.ranks u 0
+          → Dominates (leads plan) v u ⊎ (Dominates (leads plan) v u → ⊥)
           → (t : ℕ) × (t < length o.scopes) × (header_of o.scopes t ≡ v) × (kind_of o.scopes t ≡ Loop) × Holds o t u
       rises u v edge low no_rise (inr forward) = absurd (let rise = d.ranked.ready v low u (edge, forward) in omega arith)
       rises u v edge low no_rise (inl dominates) =

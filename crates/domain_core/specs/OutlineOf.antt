@@ -30,7 +30,10 @@ pub record IsOutlineOf (plan : Plan) (o : Shape) : Type 0 where
   pub one_each : length o.own ≡ length plan.places
   pub ranked : IsRanking (leads plan) (length plan.places) o.ranks
   pub headers : (s : ℕ) → s < length o.scopes → IsHeader plan (kind_of o.scopes s) (header_of o.scopes s)
-  pub all : (kind : ScopeKind) (h : ℕ) → IsHeader plan kind h → (s : ℕ) × (s < length o.scopes) × (kind_of o.scopes s ≡ kind) × (header_of o.scopes s ≡ h)
+  pub all : (kind : ScopeKind) (h : ℕ) → IsHeader plan kind h
+      → (s : ℕ) × (s < length o.scopes) × (kind_of o.scopes s ≡ kind) × (header_of o.scopes s ≡ h)
   pub ascend : (s t : ℕ) → s < t → t < length o.scopes → header_of o.scopes s < header_of o.scopes t
-  pub own : (n : ℕ) → n < length plan.places → (slice_index o.own n < length o.scopes) × IsSmallest plan (kind_of o.scopes (slice_index o.own n)) (header_of o.scopes (slice_index o.own n)) n
+  pub own : (n : ℕ) → n < length plan.places
+      → (slice_index o.own n < length o.scopes)
+      × IsSmallest plan (kind_of o.scopes (slice_index o.own n)) (header_of o.scopes (slice_index o.own n)) n
   pub parents : (s : ℕ) → s < length o.scopes → IsParent plan o.scopes s (parent_of o.scopes s)

@@ -69,7 +69,8 @@ Holds o t n = LeadsTo o.scopes t (slice_index o.own n)
 -- the scope s, its parent, and so on to the outermost
 pub data IsChain (scopes : List ScopeRow) : ℕ → List ℕ → Type 0 where
   outermost : {s : ℕ} → parent_of scopes s ≡ None → IsChain scopes s (s ∷ [])
-  inner : {s p : ℕ} {chain : List ℕ} → parent_of scopes s ≡ Some p → IsChain scopes p chain → IsChain scopes s (s ∷ chain)
+  inner : {s p : ℕ} {chain : List ℕ} → parent_of scopes s ≡ Some p → IsChain scopes p chain
+      → IsChain scopes s (s ∷ chain)
 
 -- the first k scopes of it
 abbrev pub scopes_from : List ScopeRow → ℕ → ℕ → List ℕ
@@ -108,6 +109,7 @@ pub record IsOutline (o : Shape) : Type 0 where
   pub parents_lead : (s : ℕ) → s < length o.scopes → LeadsTo o.scopes 0 s
   pub first_scope : (header_of o.scopes 0 ≡ 0) × (kind_of o.scopes 0 ≡ Call) × (parent_of o.scopes 0 ≡ None)
   pub first_alone : (s : ℕ) → Holds o s 0 → s ≡ 0
-  pub entered : (u v t : ℕ) → IsEdge o.edges u v → v < length o.own → t < length o.scopes → Holds o t v → (v ≡ header_of o.scopes t) ⊎ Holds o t u
+  pub entered : (u v t : ℕ) → IsEdge o.edges u v → v < length o.own → t < length o.scopes → Holds o t v
+      → (v ≡ header_of o.scopes t) ⊎ Holds o t u
   pub rises : (u v : ℕ) → IsEdge o.edges u v → v < length o.own → slice_index o.ranks v ≤ slice_index o.ranks u
       → (t : ℕ) × (t < length o.scopes) × (header_of o.scopes t ≡ v) × (kind_of o.scopes t ≡ Loop) × Holds o t u

@@ -48,7 +48,9 @@ module _ (begins goes : ℕ → Bool) (apart : (n : ℕ) → goes n ≡ true →
       (λ on. by_rest (λ more. open_found past more) (open_part begins goes past) refl clear on)
       (λ stop. absurd (some (rw (clear, stop) refl))))
     where
-      by_rest : (open_part begins goes past ≢ [] → IsOpen past (open_part begins goes past)) → (rest : List ℕ) → open_part begins goes past ≡ rest → begins n ≡ false → goes n ≡ true → IsOpen (n ∷ past) (open_part begins goes (n ∷ past))
+      by_rest : (open_part begins goes past ≢ [] → IsOpen past (open_part begins goes past)) → (rest : List ℕ)
+          → open_part begins goes past ≡ rest → begins n ≡ false → goes n ≡ true
+          → IsOpen (n ∷ past) (open_part begins goes (n ∷ past))
       by_rest again [] e clear on = absurd (some (rw (clear, on, e) refl))
       by_rest again (m ∷ rest) e clear on =
           let r = again (λ none. let bad : m ∷ rest ≡ [] = sym e ∙ none in cc) in
@@ -63,7 +65,8 @@ module _ (begins goes : ℕ → Bool) (apart : (n : ℕ) → goes n ≡ true →
           }
 
   -- and there is no other
-  open_one : (others : List ℕ) (first : ℕ) (older xs : List ℕ) → xs ≡ others ++ first ∷ older → AreAll (Passes goes) others → Passes begins first
+  open_one : (others : List ℕ) (first : ℕ) (older xs : List ℕ) → xs ≡ others ++ first ∷ older
+      → AreAll (Passes goes) others → Passes begins first
       → open_part begins goes xs ≡ others ++ first ∷ []
   open_one [] first older xs e all starts = rw (e, starts) refl
   open_one (n ∷ others) first older xs e all starts =
@@ -111,7 +114,8 @@ module _ (begins goes : ℕ → Bool) (apart : (n : ℕ) → goes n ≡ true →
       ])
 
   -- and all of them
-  closed_all : (xs p : List ℕ) (newest : ℕ) (newer opened : List ℕ) → xs ≡ newest ∷ newer ++ opened → IsOpen opened p → LastIsNot (Passes goes) (newest ∷ newer)
+  closed_all : (xs p : List ℕ) (newest : ℕ) (newer opened : List ℕ) → xs ≡ newest ∷ newer ++ opened → IsOpen opened p
+      → LastIsNot (Passes goes) (newest ∷ newer)
       → Contains (closed_parts begins goes xs) p
   closed_all [] p newest newer opened is part ends = absurd (let bad : [] ≡ newest ∷ newer ++ opened = is in cc)
   closed_all (n ∷ past) p newest [] opened is part ends =
@@ -163,7 +167,8 @@ module _ (begins goes : ℕ → Bool) (apart : (n : ℕ) → goes n ≡ true →
       opened : IsOpen (s.others ++ s.first ∷ s.older) p
       opened = record { others = s.others; first = s.first; older = s.older; is = refl; part_is = s.part_is; all = s.all; starts = s.begins }
 
-      by_newer : (newer : List ℕ) → xs ≡ newer ++ (s.others ++ s.first ∷ s.older) → LastIsNot (Passes goes) newer → Contains (parts begins goes xs) p
+      by_newer : (newer : List ℕ) → xs ≡ newer ++ (s.others ++ s.first ∷ s.older) → LastIsNot (Passes goes) newer
+          → Contains (parts begins goes xs) p
       by_newer [] is ends =
           let same : open_part begins goes xs ≡ p = open_is xs p (subst (λ (ys : List ℕ). IsOpen ys p) (sym is) opened) in
           subst (λ (ys : List ℕ). Contains (parts begins goes xs) ys) same

@@ -1,4 +1,5 @@
--- What a recorder keeps of the trace of a run, beside a book for all runs. Traces are written with the newest node first.
+-- What a recorder keeps of the trace of a run, beside a book for all runs. Traces are written with the newest node
+-- first.
 --   Recording R B         what a recorder names: which outlines suit it, what it covers, and what its calls answer
 --   IsRecording R B order z   the laws of a recorder
 use Rattle.std.specs.Prelude.{◌+◌, ◌<◌, ◌≤◌, max, ℕ, List, [], ◌∷◌, Contains, length}
@@ -44,30 +45,41 @@ pub record IsRecording (R B : Type 0) (order : Order R) (z : Recording R B) : Ty
   pub first_is_of : (o : Outlined) → IsSuited z o → z.is_of o (z.first o)
   pub first_length : (o : Outlined) → IsSuited z o → z.length_of (z.first o) ≤ 1
   pub first_book_is_of : (o : Outlined) → IsSuited z o → z.book_is_of o (z.first_book o)
-  pub gone_is_of : (o : Outlined) (r : R) (b : B) (n k : ℕ) → IsOf z o r b → Contains o.edges (n, k) → k < length o.nodes → IsOf z o (z.gone o r b n k) (z.gone_book o r b n k)
-  pub gone_length : (o : Outlined) (r : R) (b : B) (n k : ℕ) → IsOf z o r b → Contains o.edges (n, k) → k < length o.nodes → z.length_of (z.gone o r b n k) ≤ z.length_of r + 1
-  pub finished_is_of : (o : Outlined) (r : R) (b : B) (n : ℕ) → IsOf z o r b → n < length o.nodes → z.book_is_of o (z.finished o r b n)
+  pub gone_is_of : (o : Outlined) (r : R) (b : B) (n k : ℕ) → IsOf z o r b → Contains o.edges (n, k)
+      → k < length o.nodes → IsOf z o (z.gone o r b n k) (z.gone_book o r b n k)
+  pub gone_length : (o : Outlined) (r : R) (b : B) (n k : ℕ) → IsOf z o r b → Contains o.edges (n, k)
+      → k < length o.nodes → z.length_of (z.gone o r b n k) ≤ z.length_of r + 1
+  pub finished_is_of : (o : Outlined) (r : R) (b : B) (n : ℕ) → IsOf z o r b → n < length o.nodes
+      → z.book_is_of o (z.finished o r b n)
   pub alike : (o : Outlined) (r s : R) → IsSuited z o → z.is_of o r → z.is_of o s → order.alike r s
   pub joined_is_of : (o : Outlined) (r s : R) → IsSuited z o → z.is_of o r → z.is_of o s → z.is_of o (order.joined r s)
   pub joined_length : (r s : R) → order.alike r s → z.length_of (order.joined r s) ≤ max (z.length_of r) (z.length_of s)
   -- no call takes anything out of a book
   pub grows_itself : (b : B) → z.grows b b
   pub grows_farther : (a b c : B) → z.grows a b → z.grows b c → z.grows a c
-  pub gone_grows : (o : Outlined) (r : R) (b : B) (n k : ℕ) → IsOf z o r b → Contains o.edges (n, k) → k < length o.nodes → z.grows b (z.gone_book o r b n k)
-  pub finished_grows : (o : Outlined) (r : R) (b : B) (n : ℕ) → IsOf z o r b → n < length o.nodes → z.grows b (z.finished o r b n)
-  pub covers_grown : (o : Outlined) (r : R) (a b : B) (past : List ℕ) → z.grows a b → z.covers o r a past → z.covers o r b past
+  pub gone_grows : (o : Outlined) (r : R) (b : B) (n k : ℕ) → IsOf z o r b → Contains o.edges (n, k)
+      → k < length o.nodes → z.grows b (z.gone_book o r b n k)
+  pub finished_grows : (o : Outlined) (r : R) (b : B) (n : ℕ) → IsOf z o r b → n < length o.nodes
+      → z.grows b (z.finished o r b n)
+  pub covers_grown : (o : Outlined) (r : R) (a b : B) (past : List ℕ) → z.grows a b → z.covers o r a past
+      → z.covers o r b past
   pub sums_up_grown : (o : Outlined) (a b : B) (past : List ℕ) → z.grows a b → z.sums_up o a past → z.sums_up o b past
   -- what is above covers as much
-  pub above_covers : (o : Outlined) (r s : R) (b : B) (past : List ℕ) → order.under r s → z.covers o r b past → z.covers o s b past
+  pub above_covers : (o : Outlined) (r s : R) (b : B) (past : List ℕ) → order.under r s → z.covers o r b past
+      → z.covers o s b past
   -- the trace of node 0 alone, one that goes on, and one that ends are covered
   pub first_covers : (o : Outlined) (b : B) → IsSuited z o → z.book_is_of o b → z.covers o (z.first o) b (0 ∷ [])
-  pub gone_covers : (o : Outlined) (r : R) (b : B) (n k : ℕ) (past : List ℕ) → IsOf z o r b → IsTrace (shape_of o) (k ∷ n ∷ past) → z.covers o r b (n ∷ past)
+  pub gone_covers : (o : Outlined) (r : R) (b : B) (n k : ℕ) (past : List ℕ) → IsOf z o r b
+      → IsTrace (shape_of o) (k ∷ n ∷ past) → z.covers o r b (n ∷ past)
       → z.covers o (z.gone o r b n k) (z.gone_book o r b n k) (k ∷ n ∷ past)
-  pub finished_covers : (o : Outlined) (r : R) (b : B) (n : ℕ) (past : List ℕ) → IsOf z o r b → IsTrace (shape_of o) (n ∷ past) → z.covers o r b (n ∷ past)
+  pub finished_covers : (o : Outlined) (r : R) (b : B) (n : ℕ) (past : List ℕ) → IsOf z o r b
+      → IsTrace (shape_of o) (n ∷ past) → z.covers o r b (n ∷ past)
       → z.sums_up o (z.finished o r b n) (n ∷ past)
   -- and of one run alone there are exactly its own numbers
   pub first_sharp : (o : Outlined) → IsSuited z o → z.sharp o (z.first o) (z.first_book o) (0 ∷ [])
-  pub gone_sharp : (o : Outlined) (r : R) (b : B) (n k : ℕ) (past : List ℕ) → IsOf z o r b → IsTrace (shape_of o) (k ∷ n ∷ past) → z.sharp o r b (n ∷ past)
+  pub gone_sharp : (o : Outlined) (r : R) (b : B) (n k : ℕ) (past : List ℕ) → IsOf z o r b
+      → IsTrace (shape_of o) (k ∷ n ∷ past) → z.sharp o r b (n ∷ past)
       → z.sharp o (z.gone o r b n k) (z.gone_book o r b n k) (k ∷ n ∷ past)
-  pub finished_sharp : (o : Outlined) (r : R) (b : B) (n : ℕ) (past : List ℕ) → IsOf z o r b → IsTrace (shape_of o) (n ∷ past) → z.sharp o r b (n ∷ past)
+  pub finished_sharp : (o : Outlined) (r : R) (b : B) (n : ℕ) (past : List ℕ) → IsOf z o r b
+      → IsTrace (shape_of o) (n ∷ past) → z.sharp o r b (n ∷ past)
       → z.exact o (z.finished o r b n) (n ∷ past)

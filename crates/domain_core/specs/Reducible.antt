@@ -1,5 +1,6 @@
--- Graphs that are reducible, and the ranks of their nodes.
--- A graph is a relation on nodes: u leads to v. Of a list of edges it is `IsEdge edges`. Runs begin at node 0. The end of runs is a number to which edges lead and from which none does.
+-- Graphs that are reducible, and the ranks of their nodes. A graph is a relation on nodes: u leads to v. Of a list of
+-- edges it is `IsEdge edges`. Runs begin at node 0. The end of runs is a number to which edges lead and from which none
+-- does.
 --   IsEdge edges u v                 an edge leads from u to v
 --   Dominates Leads h u              h lies on every walk from node 0 to u
 --   IsReducible Leads                each closed walk has a node that lies on every walk from node 0 to any node of it
@@ -21,7 +22,8 @@ IsEdge edges u v = Contains edges (u, v)
 abbrev pub Dominates : (ℕ → ℕ → Type 0) → ℕ → ℕ → Type 0
 Dominates Leads h u = (path : List ℕ) → Walk Leads 0 u path → Contains path h
 
--- Each closed walk, from v to u and by an edge back to v, has a node that lies on every walk from node 0 to any node of it.
+-- Each closed walk, from v to u and by an edge back to v, has a node that lies on every walk from node 0 to any node of
+-- it.
 abbrev pub IsReducible : (ℕ → ℕ → Type 0) → Type 0
 IsReducible Leads =
     (u v : ℕ) (path : List ℕ) → Walk Leads v u path → Leads u v → (h : ℕ) × Contains path h × ((n : ℕ) → Contains path n → Dominates Leads h n)
@@ -38,7 +40,8 @@ IsForwardEdge Leads u v = Leads u v × (Dominates Leads v u → ⊥)
 abbrev pub IsDecidedBack : (ℕ → ℕ → Type 0) → Type 0
 IsDecidedBack Leads = (u v : ℕ) → Leads u v → Dominates Leads v u ⊎ (Dominates Leads v u → ⊥)
 
--- Three walks that refute reducibility: from node 0 to h, on to u, from which an edge leads back to h, and from node 0 to u without h.
+-- Three walks that refute reducibility: from node 0 to h, on to u, from which an edge leads back to h, and from node 0
+-- to u without h.
 pub record IsCrossing (Leads : ℕ → ℕ → Type 0) (to_header to_tail around : List ℕ) : Type 0 where
   pub h : ℕ
   pub u : ℕ
@@ -67,4 +70,5 @@ pub record IsRanking (Leads : ℕ → ℕ → Type 0) (nodes : ℕ) (ranks : Lis
   pub within : (n : ℕ) → n < nodes → slice_index ranks n < nodes
   pub once : (m n : ℕ) → m < n → n < nodes → slice_index ranks m ≢ slice_index ranks n
   pub ready : (n : ℕ) → n < nodes → IsReady Leads (slice_index ranks) (slice_index ranks n) n
-  pub least : (m n : ℕ) → m < n → n < nodes → slice_index ranks n < slice_index ranks m → IsReady Leads (slice_index ranks) (slice_index ranks n) m → ⊥
+  pub least : (m n : ℕ) → m < n → n < nodes → slice_index ranks n < slice_index ranks m
+      → IsReady Leads (slice_index ranks) (slice_index ranks n) m → ⊥

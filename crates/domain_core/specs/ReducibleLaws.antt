@@ -40,7 +40,8 @@ module _ (Leads : ℕ → ℕ → Type 0) where
       ]
 
   -- a node of a list has the greatest number
-  greatest : (number : ℕ → ℕ) (x : ℕ) (xs : List ℕ) → (d : ℕ) × Contains (x ∷ xs) d × ((n : ℕ) → Contains (x ∷ xs) n → number n ≤ number d)
+  greatest : (number : ℕ → ℕ) (x : ℕ) (xs : List ℕ)
+      → (d : ℕ) × Contains (x ∷ xs) d × ((n : ℕ) → Contains (x ∷ xs) n → number n ≤ number d)
   greatest number x [] = (x, first_member x [], λ n there. elim (contains_cases x [] n there) [ inl e ↦ rw e (omega arith) | inr none ↦ (no_member n none) ])
   greatest number x (y ∷ xs) =
       let r = greatest number y xs in
@@ -73,7 +74,8 @@ module _ (Leads : ℕ → ℕ → Type 0) where
           ]
 
       -- the prefix of a walk lies in it
-      inside : (d : ℕ) (prefix rest path : List ℕ) → path ≡ prefix ++ d ∷ rest → (n : ℕ) → Contains (prefix ++ d ∷ []) n → Contains path n
+      inside : (d : ℕ) (prefix rest path : List ℕ) → path ≡ prefix ++ d ∷ rest → (n : ℕ) → Contains (prefix ++ d ∷ []) n
+          → Contains path n
       inside d prefix rest path e n there =
           let whole : (prefix ++ d ∷ []) ++ rest ≡ path = append_assoc prefix (d ∷ []) rest ∙ sym e in
           subst (λ (ys : List ℕ). Contains ys n) whole (Contains-append_left (prefix ++ d ∷ []) rest n there)
@@ -103,7 +105,8 @@ module _ (Leads Other : ℕ → ℕ → Type 0) (to : (u v : ℕ) → Leads u v 
   }
 
 -- numbers that fall for the one fall for the other
-pub falling_same : (Leads Other : ℕ → ℕ → Type 0) → ((u v : ℕ) → Leads u v → Other u v) → ((u v : ℕ) → Other u v → Leads u v) → (number : ℕ → ℕ)
+pub falling_same : (Leads Other : ℕ → ℕ → Type 0) → ((u v : ℕ) → Leads u v → Other u v)
+    → ((u v : ℕ) → Other u v → Leads u v) → (number : ℕ → ℕ)
     → IsFalling Leads number → IsFalling Other number
 falling_same Leads Other to from number falls u v edge =
     elim (falls u v (from u v edge)) [ inl back ↦ inl (dominates_same Other Leads from v u back) | inr low ↦ inr low ]

@@ -56,19 +56,22 @@ module _ (Leads : ℕ → ℕ → Type 0) where
       ]
 
   -- a walk goes on along such a way, and avoids what it avoided
-  walk_on : (p q a x z : ℕ) → ((v : ℕ) → v ≢ p → v ≢ q → v ≢ z) → Way p q a x → (path : List ℕ) → Walk Leads 0 a path → (Contains path z → ⊥) → (longer : List ℕ) × Walk Leads 0 x longer × (Contains longer z → ⊥)
+  walk_on : (p q a x z : ℕ) → ((v : ℕ) → v ≢ p → v ≢ q → v ≢ z) → Way p q a x → (path : List ℕ) → Walk Leads 0 a path
+      → (Contains path z → ⊥) → (longer : List ℕ) × Walk Leads 0 x longer × (Contains longer z → ⊥)
   walk_on p q a x z apart here path walk avoids = (path, walk, avoids)
   walk_on p q a x z apart (farther {u = u} {v = v} way edge not_p not_q) path walk avoids =
       let r = walk_on p q a u z apart way path walk avoids in
       (r.0 ++ v ∷ [], goes_on r.1 edge, λ there. elim (Contains-push_cases r.0 v z there) [ inl earlier ↦ r.2 earlier | inr e ↦ apart v not_p not_q e ])
 
   -- so what dominates its end dominates its start
-  dominates_start : (p q a x z : ℕ) → ((v : ℕ) → v ≢ p → v ≢ q → v ≢ z) → Way p q a x → Dominates Leads z x → Dominates Leads z a
+  dominates_start : (p q a x z : ℕ) → ((v : ℕ) → v ≢ p → v ≢ q → v ≢ z) → Way p q a x → Dominates Leads z x
+      → Dominates Leads z a
   dominates_start p q a x z apart way dominates path walk =
       elim (contains_or_not path z) [ inl there ↦ there | inr none ↦ let r = walk_on p q a x z apart way path walk none in absurd (r.2 (dominates r.0 r.1)) ]
 
   -- no two nodes dominate each other
-  pub no_node_both_ways : (p q : ℕ) → p ≢ q → Dominates Leads p q → Dominates Leads q p → (x : ℕ) (path : List ℕ) → Walk Leads 0 x path → Contains path p ⊎ Contains path q → ⊥
+  pub no_node_both_ways : (p q : ℕ) → p ≢ q → Dominates Leads p q → Dominates Leads q p → (x : ℕ) (path : List ℕ)
+      → Walk Leads 0 x path → Contains path p ⊎ Contains path q → ⊥
   no_node_both_ways p q other p_q q_p x path stays (inl there) =
       elim (contains_cases 0 [] p there) [
         | inr none ↦ no_member p none
@@ -116,7 +119,8 @@ module _ (plan : Plan) (ok : IsPlan plan) where
   some_is_not b o is none = let e : Some b ≡ None = sym is ∙ none in cc
 
   -- an edge into a scope goes to its header or comes from inside
-  pub scope_entered : (kind : ScopeKind) (h : ℕ) → IsHeader plan kind h → (x y : ℕ) → leads plan x y → y < length plan.places → y ≢ h → InScope plan kind h y → InScope plan kind h x
+  pub scope_entered : (kind : ScopeKind) (h : ℕ) → IsHeader plan kind h → (x y : ℕ) → leads plan x y
+      → y < length plan.places → y ≢ h → InScope plan kind h y → InScope plan kind h x
   scope_entered Call h header x y edge low other (rest, is) =
       elim (ok.steps x y edge low) [
         | inside same block ↦ (rest, same ∙ is)
@@ -166,12 +170,14 @@ module _ (plan : Plan) (ok : IsPlan plan) where
       low_member : (n : ℕ) → IsBody plan h n → n < length plan.places
       low_member n (inl e) = rw e (let d = header.1 in let way = ok.reached header.0 (ok.within header.0 h d.0).0 in let on = d.1 way.0 way.1 in low_on way.0 header.0 way.1 (ok.within header.0 h d.0).0 on)
         where
-          low_on : (path : List ℕ) (u : ℕ) → Walk (leads plan) 0 u path → u < length plan.places → Contains path h → h < length plan.places
+          low_on : (path : List ℕ) (u : ℕ) → Walk (leads plan) 0 u path → u < length plan.places → Contains path h
+              → h < length plan.places
           low_on path u walk u_low there = let cut = cut_at path h there in low_walk h u (h ∷ cut.1) ((split (leads plan) 0 u h cut.0 cut.1 path walk cut.2).1) u_low
       low_member n (inr r) = low_walk n r.source r.way r.walk (ok.within r.source h r.back.0).0
 
   -- a scope holds the instances that its nodes call
-  pub scope_calls : (kind : ScopeKind) (h m n : ℕ) → InScope plan kind h m → IsCalledFrom plan m n → InScope plan kind h n
+  pub scope_calls : (kind : ScopeKind) (h m n : ℕ) → InScope plan kind h m → IsCalledFrom plan m n
+      → InScope plan kind h n
   scope_calls Call h m n (rest, is) (b, block, called) = calls_twice (b ∷ path_at plan m) (path_at plan h) (path_at plan n) (calls_on (path_at plan m) (path_at plan h) b (b ∷ path_at plan m) refl (rest, is)) called
   scope_calls Loop h m n (k, body, inl e) (b, block, called) = (k, body, inr (subst (λ (i : ℕ). IsCalledFrom plan i n) e (b, block, called)))
   scope_calls Loop h m n (k, body, inr (c, at_k, start)) (b, block, called) =
@@ -199,7 +205,8 @@ module _ (plan : Plan) (ok : IsPlan plan) where
   scope_first Loop h header (m, body, inr (b, block, (rest, is))) = absurd (not_empty (path_at plan m) b rest (sym ok.first_path ∙ is))
 
   -- a walk to a node of a scope passes the header
-  walk_enters : (kind : ScopeKind) (h : ℕ) → IsHeader plan kind h → (n : ℕ) (path : List ℕ) → Walk (leads plan) 0 n path → n < length plan.places → InScope plan kind h n → Contains path h
+  walk_enters : (kind : ScopeKind) (h : ℕ) → IsHeader plan kind h → (n : ℕ) (path : List ℕ) → Walk (leads plan) 0 n path
+      → n < length plan.places → InScope plan kind h n → Contains path h
   walk_enters kind h header n path stays low in_scope = subst (λ (k : ℕ). Contains (0 ∷ []) k) (sym (scope_first kind h header in_scope)) (first_member 0 [])
   walk_enters kind h header n path (goes_on {u = u} {v = v} {path = before} walk edge) low in_scope =
       elim (same_or_not v h) [
@@ -208,23 +215,27 @@ module _ (plan : Plan) (ok : IsPlan plan) where
       ]
 
   -- so the header dominates each node of the scope
-  pub header_dominates : (kind : ScopeKind) (h n : ℕ) → IsHeader plan kind h → n < length plan.places → InScope plan kind h n → Dominates (leads plan) h n
+  pub header_dominates : (kind : ScopeKind) (h n : ℕ) → IsHeader plan kind h → n < length plan.places
+      → InScope plan kind h n → Dominates (leads plan) h n
   header_dominates kind h n header low in_scope path walk = walk_enters kind h header n path walk low in_scope
 
   -- against a way that avoids the header, one stays in the scope
-  back_inside : (kind : ScopeKind) (h p q a x : ℕ) → IsHeader plan kind h → ((v : ℕ) → v ≢ p → v ≢ q → v ≢ h) → Way (leads plan) p q a x → x < length plan.places → InScope plan kind h x → InScope plan kind h a
+  back_inside : (kind : ScopeKind) (h p q a x : ℕ) → IsHeader plan kind h → ((v : ℕ) → v ≢ p → v ≢ q → v ≢ h)
+      → Way (leads plan) p q a x → x < length plan.places → InScope plan kind h x → InScope plan kind h a
   back_inside kind h p q a x header apart here low in_scope = in_scope
   back_inside kind h p q a x header apart (farther {u = u} {v = v} way edge not_p not_q) low in_scope =
       back_inside kind h p q a u header apart way (ok.within u v edge).0 (scope_entered kind h header u v edge low (apart v not_p not_q) in_scope)
 
-  back_along : (kind : ScopeKind) (h m u : ℕ) (way : List ℕ) → IsHeader plan kind h → Walk (leads plan) m u way → (Contains way h → ⊥) → u < length plan.places → InScope plan kind h u → InScope plan kind h m
+  back_along : (kind : ScopeKind) (h m u : ℕ) (way : List ℕ) → IsHeader plan kind h → Walk (leads plan) m u way
+      → (Contains way h → ⊥) → u < length plan.places → InScope plan kind h u → InScope plan kind h m
   back_along kind h m u way header stays avoids low in_scope = in_scope
   back_along kind h m u way header (goes_on {u = b} {v = v} {path = before} walk edge) avoids low in_scope =
       back_along kind h m b before header walk (λ there. avoids (Contains-append_left before (v ∷ []) h there)) (ok.within b v edge).0
       (scope_entered kind h header b v edge low (λ e. avoids (subst (λ (k : ℕ). Contains (before ++ v ∷ []) k) e (Contains-push before v))) in_scope)
 
   -- a scope whose header lies in another, which it does not dominate, lies in that one
-  inner : (k : ScopeKind) (g : ℕ) (l : ScopeKind) (h : ℕ) → IsHeader plan k g → IsHeader plan l h → g ≢ h → g < length plan.places → InScope plan l h g
+  inner : (k : ScopeKind) (g : ℕ) (l : ScopeKind) (h : ℕ) → IsHeader plan k g → IsHeader plan l h → g ≢ h
+      → g < length plan.places → InScope plan l h g
       → (Dominates (leads plan) g h → ⊥) → h < length plan.places → IsInside plan k g l h
   inner Loop g l h of_g of_h other low in_scope outer h_low n n_low (m, body, where_n) =
       elim where_n [ inl e ↦ subst (λ (i : ℕ). InScope plan l h i) (sym e) (from_body m body) | inr called ↦ scope_calls l h m n (from_body m body) called ]
@@ -270,7 +281,8 @@ module _ (plan : Plan) (ok : IsPlan plan) where
               ]
 
   -- of two scopes with a common node one lies in the other
-  pub nested_or_disjoint : (k l : ScopeKind) (g h x : ℕ) → IsHeader plan k g → IsHeader plan l h → g ≢ h → g < length plan.places → h < length plan.places → x < length plan.places
+  pub nested_or_disjoint : (k l : ScopeKind) (g h x : ℕ) → IsHeader plan k g → IsHeader plan l h → g ≢ h
+      → g < length plan.places → h < length plan.places → x < length plan.places
       → InScope plan k g x → InScope plan l h x → IsInside plan k g l h ⊎ IsInside plan l h k g
   nested_or_disjoint k l g h x of_g of_h other g_low h_low x_low in_g in_h =
       let walk = ok.reached x x_low in
@@ -298,7 +310,8 @@ module _ (plan : Plan) (ok : IsPlan plan) where
       let way = ok.reached u low in
       on_walk way.0 u way.1 low (back.1 way.0 way.1)
     where
-      on_walk : (path : List ℕ) (u : ℕ) → Walk (leads plan) 0 u path → u < length plan.places → Contains path h → h < length plan.places
+      on_walk : (path : List ℕ) (u : ℕ) → Walk (leads plan) 0 u path → u < length plan.places → Contains path h
+          → h < length plan.places
       on_walk path u stays low there = elim (contains_cases 0 [] h there) [ inl e ↦ rw e low | inr none ↦ (no_member h none) ]
       on_walk path u (goes_on {u = b} {v = v} {path = before} walk edge) low there =
           elim (Contains-push_cases before v h there) [ inl earlier ↦ on_walk before b walk (ok.within b v edge).0 earlier | inr e ↦ subst (λ (n : ℕ). n < length plan.places) e low ]
@@ -357,7 +370,8 @@ module _ (plan : Plan) (ok : IsPlan plan) where
 
 module _ (Leads : ℕ → ℕ → Type 0) where
   -- a node is first entered by an edge that is no back edge
-  pub first_arrival : (n x : ℕ) (path : List ℕ) → n ≢ 0 → Walk Leads 0 x path → Contains path n → (u : ℕ) × IsForwardEdge Leads u n
+  pub first_arrival : (n x : ℕ) (path : List ℕ) → n ≢ 0 → Walk Leads 0 x path → Contains path n
+      → (u : ℕ) × IsForwardEdge Leads u n
   first_arrival n x path other stays there = elim (contains_cases 0 [] n there) [ inl e ↦ absurd (other e) | inr none ↦ (no_member n none) ]
   first_arrival n x path other (goes_on {u = u} {v = v} {path = before} walk edge) there =
       elim (contains_or_not before n) [
@@ -369,7 +383,8 @@ module _ (Leads : ℕ → ℕ → Type 0) where
       ]
 
   -- a node that dominates another has a lower rank
-  pub dominator_lower : (count : ℕ) (ranks : List ℕ) → IsRanking Leads count ranks → ((u v : ℕ) → Leads u v → u < count) → ((n : ℕ) → n < count → (path : List ℕ) × Walk Leads 0 n path)
+  pub dominator_lower : (count : ℕ) (ranks : List ℕ) → IsRanking Leads count ranks → ((u v : ℕ) → Leads u v → u < count)
+      → ((n : ℕ) → n < count → (path : List ℕ) × Walk Leads 0 n path)
       → (k d n : ℕ) → get_or ranks n 0 < k → n < count → d ≢ n → Dominates Leads d n → get_or ranks d 0 < get_or ranks n 0
   dominator_lower count ranks r within reached zero d n few low other dominates = absurd (omega arith)
   dominator_lower count ranks r within reached (suc k) d n few low other dominates =

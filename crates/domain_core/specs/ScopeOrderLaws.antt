@@ -11,12 +11,14 @@ use Rattle.domain_core.specs.ScopeLaws.{nested_or_disjoint, header_dominates, he
 
 module _ (plan : Plan) (ok : IsPlan plan) (ranks : List ℕ) (ranked : IsRanking (leads plan) (length plan.places) ranks) where
   -- the header of a scope comes before each other node of it
-  pub header_lower : (k : ScopeKind) (h n : ℕ) → IsHeader plan k h → n < length plan.places → h ≢ n → InScope plan k h n → get_or ranks h 0 < get_or ranks n 0
+  pub header_lower : (k : ScopeKind) (h n : ℕ) → IsHeader plan k h → n < length plan.places → h ≢ n → InScope plan k h n
+      → get_or ranks h 0 < get_or ranks n 0
   header_lower k h n header low other held =
       dominator_lower (leads plan) (length plan.places) ranks ranked (λ u v edge. (ok.within u v edge).0) ok.reached (suc (get_or ranks n 0)) h n (omega arith) low other (header_dominates plan ok k h n header low held)
 
   -- of two scopes with a common node, the one of the later header lies in the other
-  pub deeper_inside : (k l : ScopeKind) (h g x : ℕ) → IsHeader plan k h → IsHeader plan l g → g ≢ h → x < length plan.places → InScope plan k h x → InScope plan l g x
+  pub deeper_inside : (k l : ScopeKind) (h g x : ℕ) → IsHeader plan k h → IsHeader plan l g → g ≢ h
+      → x < length plan.places → InScope plan k h x → InScope plan l g x
       → get_or ranks h 0 ≤ get_or ranks g 0 → IsInside plan l g k h
   deeper_inside k l h g x of_h of_g other x_low in_h in_g before =
       elim (nested_or_disjoint plan ok l k g h x of_g of_h other (header_low plan ok l g of_g) (header_low plan ok k h of_h) x_low in_g in_h) [
@@ -47,7 +49,8 @@ module _ (plan : Plan) (ok : IsPlan plan) (ranks : List ℕ) (ranked : IsRanking
           ]
 
   -- the later of two scopes that hold a node is inside the other, also where they are one
-  pub later_inside : (k l : ScopeKind) (h g x : ℕ) → IsHeader plan k h → IsHeader plan l g → x < length plan.places → InScope plan k h x → InScope plan l g x
+  pub later_inside : (k l : ScopeKind) (h g x : ℕ) → IsHeader plan k h → IsHeader plan l g → x < length plan.places
+      → InScope plan k h x → InScope plan l g x
       → get_or ranks h 0 ≤ get_or ranks g 0 → IsInside plan l g k h
   later_inside k l h g x of_h of_g low in_h in_g before =
       elim (same_or_not g h) [

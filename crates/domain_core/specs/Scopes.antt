@@ -1,5 +1,5 @@
--- The scopes of a graph whose nodes have places in a program.
--- A place is a call path, the blocks of the calls that lead to a function instance, the newest call first, and a block of that function or, at its entry, none.
+-- The scopes of a graph whose nodes have places in a program. A place is a call path, the blocks of the calls that lead
+-- to a function instance, the newest call first, and a block of that function or, at its entry, none.
 --   Plan                        the edges, and for each node its place; the end of runs is the number of nodes
 --   leads plan u v              an edge leads from u to v
 --   path_at plan n              the call path of the node
@@ -48,7 +48,8 @@ Extends path start = (calls : List ℕ) × (path ≡ calls ++ start)
 -- an edge inside an instance, to the entry of a called one, or back from it
 pub data IsStep (plan : Plan) (u v : ℕ) : Type 0 where
   inside : path_at plan u ≡ path_at plan v → block_at plan v ≢ None → IsStep plan u v
-  calls : (b : ℕ) → block_at plan u ≡ Some b → path_at plan v ≡ b ∷ path_at plan u → block_at plan v ≡ None → IsStep plan u v
+  calls : (b : ℕ) → block_at plan u ≡ Some b → path_at plan v ≡ b ∷ path_at plan u → block_at plan v ≡ None
+      → IsStep plan u v
   returns_from : (b : ℕ) → path_at plan u ≡ b ∷ path_at plan v → block_at plan v ≢ None → IsStep plan u v
 
 -- what the graph of an expanded program keeps
@@ -58,7 +59,8 @@ pub record IsPlan (plan : Plan) : Type 0 where
   pub first_block : block_at plan 0 ≡ None
   pub within : (u v : ℕ) → leads plan u v → (u < length plan.places) × (v ≤ length plan.places)
   pub reached : (n : ℕ) → n < length plan.places → (path : List ℕ) × Walk (leads plan) 0 n path
-  pub apart : (m n : ℕ) → m < length plan.places → n < length plan.places → path_at plan m ≡ path_at plan n → block_at plan m ≡ block_at plan n → m ≡ n
+  pub apart : (m n : ℕ) → m < length plan.places → n < length plan.places → path_at plan m ≡ path_at plan n
+      → block_at plan m ≡ block_at plan n → m ≡ n
   pub steps : (u v : ℕ) → leads plan u v → v < length plan.places → IsStep plan u v
 
 -- the node reaches a source of a back edge to h without passing h
@@ -77,7 +79,8 @@ IsBody plan h n = (n ≡ h) ⊎ IsReturning plan h n
 abbrev pub IsCalledFrom : Plan → ℕ → ℕ → Type 0
 IsCalledFrom plan m n = (b : ℕ) × (block_at plan m ≡ Some b) × Extends (path_at plan n) (b ∷ path_at plan m)
 
--- The scope holds the node. A call scope is an instance with all that it calls; a loop scope is a loop's body with all that it calls.
+-- The scope holds the node. A call scope is an instance with all that it calls; a loop scope is a loop's body with all
+-- that it calls.
 abbrev pub InScope : Plan → ScopeKind → ℕ → ℕ → Type 0
 InScope plan Call h n = Extends (path_at plan n) (path_at plan h)
 InScope plan Loop h n = (m : ℕ) × IsBody plan h m × ((n ≡ m) ⊎ IsCalledFrom plan m n)

@@ -15,28 +15,33 @@ use Rattle.domain_core.specs.Stretches.{Passes, AreAll, LastIsNot, FirstIsNot, I
 -- ---- a stretch before others
 
 -- what is among a stretch and others is the stretch or one of the others
-pub either_closed : (opened : List ℕ) (others : List (List ℕ)) (e : List ℕ) → Contains (with_closed opened others) e → ((e ≡ opened) × (opened ≢ [])) ⊎ Contains others e
+pub either_closed : (opened : List ℕ) (others : List (List ℕ)) (e : List ℕ) → Contains (with_closed opened others) e
+    → ((e ≡ opened) × (opened ≢ [])) ⊎ Contains others e
 either_closed [] others e there = inr there
 either_closed (n ∷ rest) others e there = elim (contains_cases (n ∷ rest) others e there) [ inl same ↦ inl (same, (λ none. let bad : n ∷ rest ≡ [] = none in cc)) | inr later ↦ inr later ]
 
 -- the others are among it, and the stretch where it is not empty
-pub further_closed : (opened : List ℕ) (others : List (List ℕ)) (e : List ℕ) → Contains others e → Contains (with_closed opened others) e
+pub further_closed : (opened : List ℕ) (others : List (List ℕ)) (e : List ℕ) → Contains others e
+    → Contains (with_closed opened others) e
 further_closed [] others e there = there
 further_closed (n ∷ rest) others e there = further_member (n ∷ rest) others e there
 
-pub first_closed : (opened : List ℕ) (others : List (List ℕ)) → opened ≢ [] → Contains (with_closed opened others) opened
+pub first_closed : (opened : List ℕ) (others : List (List ℕ)) → opened ≢ []
+    → Contains (with_closed opened others) opened
 first_closed [] others some = absurd (some refl)
 first_closed (n ∷ rest) others some = first_member (n ∷ rest) others
 
 -- ---- the last element
 
 -- one more element leaves the last
-pub last_more : (Inside : ℕ → Type 0) (n m : ℕ) (ms : List ℕ) → LastIsNot Inside (m ∷ ms) → LastIsNot Inside (n ∷ m ∷ ms)
+pub last_more : (Inside : ℕ → Type 0) (n m : ℕ) (ms : List ℕ) → LastIsNot Inside (m ∷ ms)
+    → LastIsNot Inside (n ∷ m ∷ ms)
 last_more Inside n m ms last [] k e is = absurd (let bad : m ∷ ms ≡ [] = cc in cc)
 last_more Inside n m ms last (f ∷ front) k e is = last front k (let tails : m ∷ ms ≡ front ++ k ∷ [] = cc in tails) is
 
 -- and one less too
-pub last_less : (Inside : ℕ → Type 0) (n m : ℕ) (ms : List ℕ) → LastIsNot Inside (n ∷ m ∷ ms) → LastIsNot Inside (m ∷ ms)
+pub last_less : (Inside : ℕ → Type 0) (n m : ℕ) (ms : List ℕ) → LastIsNot Inside (n ∷ m ∷ ms)
+    → LastIsNot Inside (m ∷ ms)
 last_less Inside n m ms last front k e is = last (n ∷ front) k (ap (λ (xs : List ℕ). n ∷ xs) e) is
 
 -- of one element
@@ -138,7 +143,8 @@ module _ (inside : ℕ → Bool) where
       ])
 
   -- and all of them
-  closed_all : (xs e : List ℕ) (newest : ℕ) (newer rest : List ℕ) → xs ≡ newest ∷ newer ++ (e ++ rest) → e ≢ [] → AreAll (Passes inside) e
+  closed_all : (xs e : List ℕ) (newest : ℕ) (newer rest : List ℕ) → xs ≡ newest ∷ newer ++ (e ++ rest) → e ≢ []
+      → AreAll (Passes inside) e
       → LastIsNot (Passes inside) (newest ∷ newer) → FirstIsNot (Passes inside) rest → Contains (closed_stretches inside xs) e
   closed_all [] e newest newer rest is some all starts ends = absurd (let bad : [] ≡ newest ∷ newer ++ (e ++ rest) = is in cc)
   closed_all (n ∷ past) e newest [] rest is some all starts ends =
@@ -175,7 +181,8 @@ module _ (inside : ℕ → Bool) where
   pub stretch_found : (xs e : List ℕ) → IsStretch (Passes inside) xs e → Contains (stretches inside xs) e
   stretch_found xs e s = by_earlier s.earlier s.is s.starts
     where
-      by_earlier : (earlier : List ℕ) → xs ≡ earlier ++ (e ++ s.later) → LastIsNot (Passes inside) earlier → Contains (stretches inside xs) e
+      by_earlier : (earlier : List ℕ) → xs ≡ earlier ++ (e ++ s.later) → LastIsNot (Passes inside) earlier
+          → Contains (stretches inside xs) e
       by_earlier [] is starts =
           let same = open_one xs e (record { rest = s.later; is = is; all = s.all; ends = s.ends }) in
           subst (λ (ys : List ℕ). Contains (stretches inside xs) ys) (sym same)
@@ -188,7 +195,8 @@ turned_empty : (xs : List ℕ) → reverse xs ≡ [] → xs ≡ []
 turned_empty xs e = sym (reverse-reverse xs) ∙ ap (λ (ys : List ℕ). reverse ys) e
 
 -- a stretch of a list, read backwards, is one of the list read backwards
-pub stretch_turned : (Inside : ℕ → Type 0) (xs e : List ℕ) → IsStretch Inside xs e → IsStretch Inside (reverse xs) (reverse e)
+pub stretch_turned : (Inside : ℕ → Type 0) (xs e : List ℕ) → IsStretch Inside xs e
+    → IsStretch Inside (reverse xs) (reverse e)
 stretch_turned Inside xs e s = record {
   earlier = reverse s.later;
   later = reverse s.earlier;
@@ -200,7 +208,8 @@ stretch_turned Inside xs e s = record {
 }
 
 -- two properties that say the same have the same stretches
-pub stretch_same : (Inside Other : ℕ → Type 0) → ((n : ℕ) → Inside n → Other n) → ((n : ℕ) → Other n → Inside n) → (xs e : List ℕ) → IsStretch Inside xs e → IsStretch Other xs e
+pub stretch_same : (Inside Other : ℕ → Type 0) → ((n : ℕ) → Inside n → Other n) → ((n : ℕ) → Other n → Inside n)
+    → (xs e : List ℕ) → IsStretch Inside xs e → IsStretch Other xs e
 stretch_same Inside Other to from xs e s = record {
   earlier = s.earlier;
   later = s.later;

@@ -70,21 +70,26 @@ abbrev pub GivesSize : {D : Type 0} → WordSets D → Option D → ℕ → Type
 GivesSize {D} sets answer s = (d : D) → answer ≡ Some d → IsOfSize sets s d
 
 -- what the operator gives at the values
-pub record IsApplied {D : Type 0} (sets : WordSets D) (op : Op) (sizes : List ℕ) (args : List D) (answer : Applied D) : Type 0 where
+pub record IsApplied {D : Type 0} (sets : WordSets D) (op : Op) (sizes : List ℕ) (args : List D)
+    (answer : Applied D) : Type 0 where
   pub size : GivesSize sets answer.value (size_of_result op sizes)
   -- its word for each choice of words, and that it divides where a choice divides by 0
-  pub covering : (xs : List ℕ) → HaveWords sets args xs → (DividesByZero op xs → ⊥) → Gives sets answer.value (value op sizes xs)
+  pub covering : (xs : List ℕ) → HaveWords sets args xs → (DividesByZero op xs → ⊥)
+      → Gives sets answer.value (value op sizes xs)
   pub divides : (xs : List ℕ) → HaveWords sets args xs → DividesByZero op xs → answer.divide ≡ true
   -- and nothing else where each value has one word
-  pub sharp : (xs : List ℕ) → HaveOneWord sets args xs → (DividesByZero op xs → ⊥) → GivesOnly sets answer.value (value op sizes xs) × (answer.divide ≡ false)
-  pub sharp_divides : (xs : List ℕ) → HaveOneWord sets args xs → DividesByZero op xs → (answer.value ≡ None) × (answer.divide ≡ true)
+  pub sharp : (xs : List ℕ) → HaveOneWord sets args xs → (DividesByZero op xs → ⊥)
+      → GivesOnly sets answer.value (value op sizes xs) × (answer.divide ≡ false)
+  pub sharp_divides : (xs : List ℕ) → HaveOneWord sets args xs → DividesByZero op xs
+      → (answer.value ≡ None) × (answer.divide ≡ true)
 
 -- what is kept of a where it is in relation to b
 pub record IsAssumed {D : Type 0} (sets : WordSets D) (rel : Rel) (a b : D) (answer : Option D) : Type 0 where
   pub size : GivesSize sets answer (sets.size_of a)
   pub covering : (x y : ℕ) → sets.covers a x → sets.covers b y → Related rel (sets.size_of a) x y → Gives sets answer x
   pub sharp : (x y : ℕ) → IsOnly sets a x → IsOnly sets b y → Related rel (sets.size_of a) x y → GivesOnly sets answer x
-  pub sharp_none : (x y : ℕ) → IsOnly sets a x → IsOnly sets b y → (Related rel (sets.size_of a) x y → ⊥) → answer ≡ None
+  pub sharp_none : (x y : ℕ) → IsOnly sets a x → IsOnly sets b y → (Related rel (sets.size_of a) x y → ⊥)
+      → answer ≡ None
 
 -- what is kept of d where it is the word x
 pub record IsKeptWord {D : Type 0} (sets : WordSets D) (d : D) (x : ℕ) (answer : Option D) : Type 0 where
@@ -104,10 +109,12 @@ pub record IsWordSets (D : Type 0) (order : Order D) (sets : WordSets D) : Type 
   pub fits : (d : D) (x : ℕ) → sets.kept d → sets.covers d x → x < 2 ^ sets.size_of d
   -- values of one size are alike, and their join is of this size
   pub alike : (a b : D) → sets.kept a → sets.kept b → sets.size_of a ≡ sets.size_of b → order.alike a b
-  pub joined_size : (a b : D) → sets.kept a → sets.kept b → sets.size_of a ≡ sets.size_of b → IsOfSize sets (sets.size_of a) (order.joined a b)
+  pub joined_size : (a b : D) → sets.kept a → sets.kept b → sets.size_of a ≡ sets.size_of b
+      → IsOfSize sets (sets.size_of a) (order.joined a b)
   -- what is above has each word, and two that have one and the same word alone are joined to it
   pub above : (a b : D) (x : ℕ) → order.under a b → sets.covers a x → sets.covers b x
-  pub joined_one : (a b : D) (x : ℕ) → sets.kept a → sets.kept b → sets.size_of a ≡ sets.size_of b → IsOnly sets a x → IsOnly sets b x → IsOnly sets (order.joined a b) x
+  pub joined_one : (a b : D) (x : ℕ) → sets.kept a → sets.kept b → sets.size_of a ≡ sets.size_of b → IsOnly sets a x
+      → IsOnly sets b x → IsOnly sets (order.joined a b) x
   -- one word, and every word
   pub single_size : (s x : ℕ) → IsWordSize s → x < 2 ^ s → IsOfSize sets s (sets.single s x)
   pub single_only : (s x : ℕ) → IsWordSize s → x < 2 ^ s → IsOnly sets (sets.single s x) x
@@ -116,7 +123,9 @@ pub record IsWordSets (D : Type 0) (order : Order D) (sets : WordSets D) : Type 
   -- the test for a word is right
   pub tested : (d : D) (x : ℕ) → sets.kept d → (sets.has d x ≡ true) ↔ sets.covers d x
   -- operators, relations, and one word kept
-  pub applied : (op : Op) (sizes : List ℕ) (args : List D) → IsSome (result_size op sizes) → HaveSizes sets (operand_sizes op sizes) args → AreKept sets args
+  pub applied : (op : Op) (sizes : List ℕ) (args : List D) → IsSome (result_size op sizes)
+      → HaveSizes sets (operand_sizes op sizes) args → AreKept sets args
       → IsApplied sets op sizes args (sets.applied op sizes args)
-  pub assumed : (rel : Rel) (a b : D) → sets.kept a → sets.kept b → sets.size_of a ≡ sets.size_of b → IsAssumed sets rel a b (sets.assumed rel a b)
+  pub assumed : (rel : Rel) (a b : D) → sets.kept a → sets.kept b → sets.size_of a ≡ sets.size_of b
+      → IsAssumed sets rel a b (sets.assumed rel a b)
   pub only : (d : D) (x : ℕ) → sets.kept d → IsKeptWord sets d x (sets.only d x)

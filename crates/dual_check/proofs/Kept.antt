@@ -19,12 +19,14 @@ use Rattle.dual_check.proofs.Small.{rows_small}
 
 -- ---- rows
 
-rows_within : (columns : List Column) (w : Constraint → Weighing) (ks : List Constraint) (k : ℕ) → IsWithin (length columns) (row_at (map (λ c. row_of columns (w c)) ks) k).terms
+rows_within : (columns : List Column) (w : Constraint → Weighing) (ks : List Constraint) (k : ℕ)
+    → IsWithin (length columns) (row_at (map (λ c. row_of columns (w c)) ks) k).terms
 rows_within columns w [] k = tt
 rows_within columns w (c ∷ ks) zero = terms_within (w c).weight 0 (length columns) columns (omega arith)
 rows_within columns w (c ∷ ks) (suc k) = rows_within columns w ks k
 
-rows_ascend : (columns : List Column) (w : Constraint → Weighing) (ks : List Constraint) (k : ℕ) → IsAscending (row_at (map (λ c. row_of columns (w c)) ks) k).terms
+rows_ascend : (columns : List Column) (w : Constraint → Weighing) (ks : List Constraint) (k : ℕ)
+    → IsAscending (row_at (map (λ c. row_of columns (w c)) ks) k).terms
 rows_ascend columns w [] k = tt
 rows_ascend columns w (c ∷ ks) zero = terms_ascend (w c).weight 0 columns
 rows_ascend columns w (c ∷ ks) (suc k) = rows_ascend columns w ks k
@@ -36,7 +38,8 @@ one_opening None b = omega arith
 one_opening (Some a) None = omega arith
 one_opening (Some a) (Some b) = omega arith
 
-few_flat : (columns : List Column) (ks : List Constraint) (xs : List ℕ) → length (flat_map (λ m. opening_of columns ks m) xs) ≤ length xs
+few_flat : (columns : List Column) (ks : List Constraint) (xs : List ℕ)
+    → length (flat_map (λ m. opening_of columns ks m) xs) ≤ length xs
 few_flat columns ks [] = omega arith
 few_flat columns ks (x ∷ xs) =
     let one = one_opening (place_of (λ k. is_limit_of x k) 0 ks) (place_of (λ c. x == c.from) 0 columns) in
@@ -48,7 +51,8 @@ few_openings : (columns : List Column) (ks : List Constraint) (n : ℕ) → leng
 few_openings columns ks n = omega (arith, few_flat columns ks (range_with_len 0 n), length-range_with_len 0 n)
 
 -- what the program keeps
-pub system_is : (o : Outlined) (columns : List Column) (ks : List Constraint) → length columns < 2 ^ 32 - 1 → length ks < 2 ^ 32 - 1 → length o.nodes < 2 ^ 32 - 1
+pub system_is : (o : Outlined) (columns : List Column) (ks : List Constraint) → length columns < 2 ^ 32 - 1
+    → length ks < 2 ^ 32 - 1 → length o.nodes < 2 ^ 32 - 1
     → ((e : ℕ) → cost_at (map (λ c. cost_of (costs_of o) c) columns) e < 2 ^ 32) → All ConstraintFits ks → IsSystem (system_from o columns ks)
 system_is o columns ks few_columns few_rows few_nodes costs fit =
     let long : length (map (λ c. cost_of (costs_of o) c) columns) ≡ length columns = length-map columns (λ c. cost_of (costs_of o) c) in
@@ -66,7 +70,8 @@ system_is o columns ks few_columns few_rows few_nodes costs fit =
 -- ---- rows by their terms
 
 -- the terms of rows are of the columns, ascend, and none is 0
-pub rows_of_columns : (o : Shape) (columns : List Column) (ks : List Constraint) (rows : List Row) (n : ℕ) → rows ≡ map (λ k. row_of columns (weighing_of o k)) ks → n ≡ length columns → AreOf n rows
+pub rows_of_columns : (o : Shape) (columns : List Column) (ks : List Constraint) (rows : List Row) (n : ℕ)
+    → rows ≡ map (λ k. row_of columns (weighing_of o k)) ks → n ≡ length columns → AreOf n rows
 rows_of_columns o columns ks rows n is count = subst (λ (rs : List Row). AreOf n rs) (sym is) (each_row ks)
   where
     each_row : (ks : List Constraint) → AreOf n (map (λ k. row_of columns (weighing_of o k)) ks)

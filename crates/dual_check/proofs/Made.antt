@@ -28,7 +28,8 @@ use Rattle.dual_check.specs.Openings.{opening_of, openings_of, costs_of, system_
 
 -- ---- one more
 
-flat_range : {A : Type 0} (g : ℕ → List A) (b n : ℕ) → flat_map g (range_with_len b (suc n)) ≡ flat_map g (range_with_len b n) ++ g (b + n)
+flat_range : {A : Type 0} (g : ℕ → List A) (b n : ℕ)
+    → flat_map g (range_with_len b (suc n)) ≡ flat_map g (range_with_len b n) ++ g (b + n)
 flat_range g b zero =
     let same : b ≡ b + 0 = omega arith in
     append-nil (g b) ∙ ap g same
@@ -37,37 +38,44 @@ flat_range g b (suc n) =
     ap (λ xs. g b ++ xs) (flat_range g (b + 1) n ∙ ap (λ (k : ℕ). flat_map g (range_with_len (b + 1) n) ++ g k) same)
     ∙ sym (append_assoc (g b) (flat_map g (range_with_len (b + 1) n)) (g (b + suc n)))
 
-range_more : {A : Type 0} (g : ℕ → List A) (n : ℕ) → flat_map g (range_with_len 0 (n + 1)) ≡ flat_map g (range_with_len 0 n) ++ g n
+range_more : {A : Type 0} (g : ℕ → List A) (n : ℕ)
+    → flat_map g (range_with_len 0 (n + 1)) ≡ flat_map g (range_with_len 0 n) ++ g n
 range_more g n =
     let same : 0 + n ≡ n = omega arith in
     let more : flat_map g (range_with_len 0 (suc n)) ≡ flat_map g (range_with_len 0 n) ++ g n = flat_range g 0 n ∙ ap (λ (k : ℕ). flat_map g (range_with_len 0 n) ++ g k) same in
     rw add-one more
 
-pub fault_more : (old out more : List Column) (end n : ℕ) (p : ℕ → Bool) (is : Bool) → is ≡ p n → out ≡ old ++ flat_map (λ m. fault_if end m (p m)) (range_with_len 0 n) → more ≡ out ++ fault_if end n is
+pub fault_more : (old out more : List Column) (end n : ℕ) (p : ℕ → Bool) (is : Bool) → is ≡ p n
+    → out ≡ old ++ flat_map (λ m. fault_if end m (p m)) (range_with_len 0 n) → more ≡ out ++ fault_if end n is
     → more ≡ old ++ flat_map (λ m. fault_if end m (p m)) (range_with_len 0 (n + 1))
 fault_more old out more end n p is told so_far next =
     next ∙ ap (λ (b : Bool). out ++ fault_if end n b) told ∙ ap (λ xs. xs ++ fault_if end n (p n)) so_far
     ∙ append_assoc old (flat_map (λ m. fault_if end m (p m)) (range_with_len 0 n)) (fault_if end n (p n))
     ∙ ap (λ xs. old ++ xs) (sym (range_more (λ m. fault_if end m (p m)) n))
 
-pub opening_more : (out more : List (ℕ × ℕ)) (columns : List Column) (ks : List Constraint) (n : ℕ) → out ≡ openings_of columns ks n → more ≡ out ++ opening_of columns ks n → more ≡ openings_of columns ks (n + 1)
+pub opening_more : (out more : List (ℕ × ℕ)) (columns : List Column) (ks : List Constraint) (n : ℕ)
+    → out ≡ openings_of columns ks n → more ≡ out ++ opening_of columns ks n → more ≡ openings_of columns ks (n + 1)
 opening_more out more columns ks n is next = next ∙ ap (λ xs. xs ++ opening_of columns ks n) is ∙ sym (range_more (λ m. opening_of columns ks m) n)
 
-pub flows_more : (n : ℕ) → map (λ m. Flow m) (range_with_len 0 (n + 1)) ≡ map (λ m. Flow m) (range_with_len 0 n) ++ Flow n ∷ []
+pub flows_more : (n : ℕ)
+    → map (λ m. Flow m) (range_with_len 0 (n + 1)) ≡ map (λ m. Flow m) (range_with_len 0 n) ++ Flow n ∷ []
 flows_more n = map-range_with_len_more (λ m. Flow m) 0 n n (omega arith)
 
 -- one column more
-pub edges_more : (es : List (ℕ × ℕ)) (k : ℕ) (e : ℕ × ℕ) → slice_get es k ≡ Some e → map edge_column (take (k + 1) es) ≡ map edge_column (take k es) ++ edge_column e ∷ []
+pub edges_more : (es : List (ℕ × ℕ)) (k : ℕ) (e : ℕ × ℕ) → slice_get es k ≡ Some e
+    → map edge_column (take (k + 1) es) ≡ map edge_column (take k es) ++ edge_column e ∷ []
 edges_more es k e there = rw add-one (next_edge es k e there)
   where
-    next_edge : (es : List (ℕ × ℕ)) (k : ℕ) (e : ℕ × ℕ) → slice_get es k ≡ Some e → map edge_column (take (suc k) es) ≡ map edge_column (take k es) ++ edge_column e ∷ []
+    next_edge : (es : List (ℕ × ℕ)) (k : ℕ) (e : ℕ × ℕ) → slice_get es k ≡ Some e
+        → map edge_column (take (suc k) es) ≡ map edge_column (take k es) ++ edge_column e ∷ []
     next_edge [] k e there = absurd cc
     next_edge (d ∷ es) zero e there = let same : d ≡ e = cc in rw same refl
     next_edge (d ∷ es) (suc k) e there = ap (λ xs. edge_column d ∷ xs) (next_edge es k e there)
 
 -- ---- columns
 
-faults_flat : (o : Shape) (p : ℕ → Bool) (xs : List ℕ) → flat_map (λ n. fault_if (length o.own) n (p n)) xs ≡ map (λ n. fault_column o n) (filter p xs)
+faults_flat : (o : Shape) (p : ℕ → Bool) (xs : List ℕ)
+    → flat_map (λ n. fault_if (length o.own) n (p n)) xs ≡ map (λ n. fault_column o n) (filter p xs)
 faults_flat o p [] = refl
 faults_flat o p (x ∷ xs) =
     let later = faults_flat o p xs in
@@ -85,18 +93,21 @@ from_append : (n : ℕ) (xs ys : List Column) → AreFrom n xs → AreFrom n ys 
 from_append n [] ys a b = b
 from_append n (x ∷ xs) ys a b = (a.0, a.1, from_append n xs ys a.2 b)
 
-from_edges : (n : ℕ) (es : List (ℕ × ℕ)) → ((u v : ℕ) → Contains es (u, v) → (u < n) × (v ≤ n)) → AreFrom n (map edge_column es)
+from_edges : (n : ℕ) (es : List (ℕ × ℕ)) → ((u v : ℕ) → Contains es (u, v) → (u < n) × (v ≤ n))
+    → AreFrom n (map edge_column es)
 from_edges n [] within = tt
 from_edges n (e ∷ es) within = ((within e.0 e.1 (first_member e es)).0, (within e.0 e.1 (first_member e es)).1, from_edges n es (λ u v there. within u v (further_member e es (u, v) there)))
 
-from_faults : (o : Shape) (p : ℕ → Bool) (b k n : ℕ) → b + k ≤ n → length o.own ≤ n → AreFrom n (map (λ m. fault_column o m) (filter p (range_with_len b k)))
+from_faults : (o : Shape) (p : ℕ → Bool) (b k n : ℕ) → b + k ≤ n → length o.own ≤ n
+    → AreFrom n (map (λ m. fault_column o m) (filter p (range_with_len b k)))
 from_faults o p b zero n low end = tt
 from_faults o p b (suc k) n low end =
     let later = from_faults o p (b + 1) k n (omega arith) end in
     by_test (p b) (λ is. rw is (omega arith, end, later)) (λ clear. rw clear later)
 
 -- each leads from a node
-pub columns_from_nodes : (o : Outlined) (facts : List Fact) (columns : List Column) → IsOutline (shape_of o) → columns ≡ columns_of (shape_of o) facts → AreFrom (length o.nodes) columns
+pub columns_from_nodes : (o : Outlined) (facts : List Fact) (columns : List Column) → IsOutline (shape_of o)
+    → columns ≡ columns_of (shape_of o) facts → AreFrom (length o.nodes) columns
 columns_from_nodes o facts columns ok is =
     let long : length (shape_of o).own ≡ length o.nodes = length-map o.nodes (λ (row : NodeRow). row.scope) in
     subst (λ (cs : List Column). AreFrom (length o.nodes) cs) (sym is)
@@ -106,7 +117,8 @@ columns_from_nodes o facts columns ok is =
 
 -- ---- constraints
 
-map_flat : {A B C : Type 0} (f : B → C) (g : A → List B) (h : A → List C) (xs : List A) → ((x : A) → map f (g x) ≡ h x) → map f (flat_map g xs) ≡ flat_map h xs
+map_flat : {A B C : Type 0} (f : B → C) (g : A → List B) (h : A → List C) (xs : List A) → ((x : A) → map f (g x) ≡ h x)
+    → map f (flat_map g xs) ≡ flat_map h xs
 map_flat f g h [] same = refl
 map_flat f g h (x ∷ xs) same = map-append f (g x) (flat_map g xs) ∙ ap (λ ys. ys ++ map f (flat_map g xs)) (same x) ∙ ap (λ ys. h x ++ ys) (map_flat f g h xs same)
 
@@ -160,7 +172,8 @@ module _ (o : Shape) where
   counts_weigh (Pair s a b) = refl
   counts_weigh (Alarm n why) = refl
 
-  joined : (a b : List Constraint) (u v : List Weighing) → map (weighing_of o) a ≡ u → map (weighing_of o) b ≡ v → map (weighing_of o) (a ++ b) ≡ u ++ v
+  joined : (a b : List Constraint) (u v : List Weighing) → map (weighing_of o) a ≡ u → map (weighing_of o) b ≡ v
+      → map (weighing_of o) (a ++ b) ≡ u ++ v
   joined a b u v p q = map-append (weighing_of o) a b ∙ ap (λ ys. ys ++ map (weighing_of o) b) p ∙ ap (λ ys. u ++ ys) q
 
   -- the constraints weigh what the rows weigh
@@ -178,18 +191,22 @@ module _ (o : Shape) where
 same_rows : (o : Shape) (columns : List Column) (facts : List Fact) → map (λ k. row_of columns (weighing_of o k)) (constraints_of o facts) ≡ map (λ w. row_of columns w) (weighings o facts)
 same_rows o columns facts = sym (map_twice (λ w. row_of columns w) (weighing_of o) (constraints_of o facts)) ∙ ap (λ ws. map (λ w. row_of columns w) ws) (weighings_made o facts)
 
-system_same : (o : Outlined) (facts : List Fact) → system_from o (columns_of (shape_of o) facts) (constraints_of (shape_of o) facts) ≡ system_of o facts
+system_same : (o : Outlined) (facts : List Fact)
+    → system_from o (columns_of (shape_of o) facts) (constraints_of (shape_of o) facts) ≡ system_of o facts
 system_same o facts =
     ap (λ rows. let s : System = record {
       program = record { costs = map (λ c. cost_of (costs_of o) c) (columns_of (shape_of o) facts); rows = rows };
       openings = openings_of (columns_of (shape_of o) facts) (constraints_of (shape_of o) facts) (length o.nodes);
     } in s) (same_rows (shape_of o) (columns_of (shape_of o) facts) facts)
 
-pub system_made : (o : Outlined) (facts : List Fact) (columns : List Column) (ks : List Constraint) → columns ≡ columns_of (shape_of o) facts → ks ≡ constraints_of (shape_of o) facts → system_from o columns ks ≡ system_of o facts
+pub system_made : (o : Outlined) (facts : List Fact) (columns : List Column) (ks : List Constraint)
+    → columns ≡ columns_of (shape_of o) facts → ks ≡ constraints_of (shape_of o) facts
+    → system_from o columns ks ≡ system_of o facts
 system_made o facts columns ks is are = ap (λ (cs : List Column). system_from o cs ks) is ∙ ap (λ (js : List Constraint). system_from o (columns_of (shape_of o) facts) js) are ∙ system_same o facts
 
 -- what a node costs
-pub cost_made : (nodes : List NodeRow) (n : ℕ) (row : NodeRow) → slice_get nodes n ≡ Some row → row.cost ≡ slice_index (map (λ (r : NodeRow). r.cost) nodes) n
+pub cost_made : (nodes : List NodeRow) (n : ℕ) (row : NodeRow) → slice_get nodes n ≡ Some row
+    → row.cost ≡ slice_index (map (λ (r : NodeRow). r.cost) nodes) n
 cost_made [] n row there = absurd cc
 cost_made (r ∷ nodes) zero row there = let same : r ≡ row = cc in ap (λ (q : NodeRow). q.cost) (sym same)
 cost_made (r ∷ nodes) (suc n) row there = cost_made nodes n row there
@@ -199,7 +216,8 @@ pub nodes_are : (o : Outlined) → nodes_of (shape_of o) ≡ range_with_len 0 (l
 nodes_are o = ap (λ (n : ℕ). range_with_len 0 n) (length-map o.nodes (λ (row : NodeRow). row.scope))
 
 -- the groups in their order are the constraints
-pub constraints_made : (o : Outlined) (facts : List Fact) (a b c d e f pairs : List Constraint) → a ≡ map (λ n. Flow n) (range_with_len 0 (length o.nodes))
+pub constraints_made : (o : Outlined) (facts : List Fact) (a b c d e f pairs : List Constraint)
+    → a ≡ map (λ n. Flow n) (range_with_len 0 (length o.nodes))
     → b ≡ a ++ flat_map (λ f. group_of (shape_of o) Loops f) facts → c ≡ b ++ flat_map (λ f. group_of (shape_of o) Deads f) facts
     → d ≡ c ++ flat_map (λ f. group_of (shape_of o) Totals f) facts → pairs ≡ take 128 (flat_map (λ f. group_of (shape_of o) Pairs f) facts)
     → e ≡ d ++ pairs → f ≡ e ++ flat_map (λ f. group_of (shape_of o) Counts f) facts → f ≡ constraints_of (shape_of o) facts

@@ -15,7 +15,8 @@ use Rattle.dual_check.specs.Openings.{costs_of, system_of}
 below_next : (cost v : ℕ) (z : ℤ) → z <ℤ (pos (suc v) *ℤ pos 1) → z ≡ pos cost → cost ≤ v
 below_next cost v z less is = omega (arith, ints, less, is)
 
-pub run_bounded : (o : Outlined) → IsOutline (shape_of o) → (facts : List Fact) (fault : Bool) (k : ℕ) (past : List ℕ) → IsEnded (shape_of o) facts fault (k ∷ past)
+pub run_bounded : (o : Outlined) → IsOutline (shape_of o) → (facts : List Fact) (fault : Bool) (k : ℕ) (past : List ℕ)
+    → IsEnded (shape_of o) facts fault (k ∷ past)
     → FitOutline (shape_of o) facts → MeetFacts (shape_of o) (reverse (k ∷ past)) facts → (v bound : ℕ) → BoundsAll (system_of o facts).program v bound
     → (run_cost (costs_of o) (k ∷ past) ≤ v) × (v ≤ bound)
 run_bounded o ok facts fault k past run fits met v bound holds =

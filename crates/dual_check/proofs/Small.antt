@@ -31,7 +31,8 @@ so_many n true few = (omega (arith, ints), omega (arith, ints, few))
 so_many n false few = (omega (arith, ints), omega (arith, ints))
 
 -- what a row weighs
-weight_small : (o : Shape) (k : Constraint) (c : Column) → ConstraintFits k → IsUpTo 8589934592 ((weighing_of o k).weight c)
+weight_small : (o : Shape) (k : Constraint) (c : Column) → ConstraintFits k
+    → IsUpTo 8589934592 ((weighing_of o k).weight c)
 weight_small o (Flow n) c fits =
     let out = one_between (n == c.from) in
     let back = one_between (n == c.into) in
@@ -65,7 +66,8 @@ right_small o (Apart header a b) fits = (omega (arith, ints), omega (arith, ints
 nothing_small : IsUpTo 8589934592 (pos 0)
 nothing_small = (omega (arith, ints), omega (arith, ints))
 
-weights_small : (o : Shape) (k : Constraint) (columns : List Column) (e : ℕ) → ConstraintFits k → IsUpTo 8589934592 (weight_at (weighing_of o k).weight columns e)
+weights_small : (o : Shape) (k : Constraint) (columns : List Column) (e : ℕ) → ConstraintFits k
+    → IsUpTo 8589934592 (weight_at (weighing_of o k).weight columns e)
 weights_small o k [] e fits = nothing_small
 weights_small o k (c ∷ columns) zero fits = weight_small o k c fits
 weights_small o k (c ∷ columns) (suc e) fits = weights_small o k columns e fits
@@ -90,7 +92,8 @@ cost_fits (c ∷ costs) zero fits = fits
 cost_fits (c ∷ costs) (suc e) fits = cost_fits costs e fits
 
 -- costs, coefficients, right sides and the number of rows have about 32 bits
-pub rows_small : (o : Outlined) (columns : List Column) (ks : List Constraint) → ((e : ℕ) → cost_at (map (λ c. cost_of (costs_of o) c) columns) e < 2 ^ 32)
+pub rows_small : (o : Outlined) (columns : List Column) (ks : List Constraint)
+    → ((e : ℕ) → cost_at (map (λ c. cost_of (costs_of o) c) columns) e < 2 ^ 32)
     → All ConstraintFits ks → length ks < 2 ^ 32 - 1 → IsSmall (system_from o columns ks).program
 rows_small o columns ks costs fit few =
     let tall : length (map (λ k. row_of columns (weighing_of (shape_of o) k)) ks) ≡ length ks = length-map ks (λ k. row_of columns (weighing_of (shape_of o) k)) in

@@ -79,7 +79,8 @@ upto_skips g b (suc m) low none = elim (cases_eq b (suc m)) [
 ]
 
 -- on to the next place
-advance : (g : ℕ → ℤ) (end b p : ℕ) (xs ys zs : List ℕ) (terms : List (ℕ × ℤ)) → IsSought g end b xs ys zs terms → p ≡ least_of xs (least_of ys (least_of zs end)) → IsSought g end p xs ys zs terms
+advance : (g : ℕ → ℤ) (end b p : ℕ) (xs ys zs : List ℕ) (terms : List (ℕ × ℤ)) → IsSought g end b xs ys zs terms
+    → p ≡ least_of xs (least_of ys (least_of zs end)) → IsSought g end p xs ys zs terms
 advance g end b p xs ys zs terms s is =
     let r = least_of zs end in
     let q = least_of ys r in
@@ -109,7 +110,8 @@ column_there n j [] d are low = absurd (omega arith)
 column_there n zero (c ∷ cs) d are low = are.0
 column_there n (suc j) (c ∷ cs) d are low = column_there n j cs d are.2 (omega arith)
 
-weight_there : (f : Column → ℤ) (j : ℕ) (cs : List Column) (d : Column) → j < length cs → f (get_or cs j d) ≡ weight_at f cs j
+weight_there : (f : Column → ℤ) (j : ℕ) (cs : List Column) (d : Column) → j < length cs
+    → f (get_or cs j d) ≡ weight_at f cs j
 weight_there f j [] d low = absurd (omega arith)
 weight_there f zero (c ∷ cs) d low = refl
 weight_there f (suc j) (c ∷ cs) d low = weight_there f j cs d (omega arith)
@@ -127,7 +129,8 @@ touching_rises n b (c ∷ cs) =
     from_before (x ∷ xs) rises = let above = rises.0 in (omega arith, rises.1)
 
 -- where a column is on none of the lists, a weight that is 0 at columns which touch no node of theirs is 0
-others_nothing : (f : Column → ℤ) (n m k : ℕ) (b j : ℕ) (cs : List Column) → ((c : Column) → touches n c ≡ false → touches m c ≡ false → touches k c ≡ false → f c ≡ pos 0)
+others_nothing : (f : Column → ℤ) (n m k : ℕ) (b j : ℕ) (cs : List Column)
+    → ((c : Column) → touches n c ≡ false → touches m c ≡ false → touches k c ≡ false → f c ≡ pos 0)
     → has (touching_of n b cs) (b + j) ≡ false → has (touching_of m b cs) (b + j) ≡ false → has (touching_of k b cs) (b + j) ≡ false → weight_at f cs j ≡ pos 0
 others_nothing f n m k b j [] none x y z = refl
 others_nothing f n m k b zero (c ∷ cs) none x y z = none c (untouched n x) (untouched m y) (untouched k z)
@@ -144,7 +147,8 @@ others_nothing f n m k b (suc j) (c ∷ cs) none x y z =
     let same : b + suc j ≡ (b + 1) + j = omega arith in
     others_nothing f n m k (b + 1) j cs none (later n x same) (later m y same) (later k z same)
   where
-    later : (i : ℕ) → has (touching_of i b (c ∷ cs)) (b + suc j) ≡ false → b + suc j ≡ (b + 1) + j → has (touching_of i (b + 1) cs) ((b + 1) + j) ≡ false
+    later : (i : ℕ) → has (touching_of i b (c ∷ cs)) (b + suc j) ≡ false → b + suc j ≡ (b + 1) + j
+        → has (touching_of i (b + 1) cs) ((b + 1) + j) ≡ false
     later i out same = by_test (touches i c)
         (λ is.
         let here : touching_of i b (c ∷ cs) ≡ b ∷ touching_of i (b + 1) cs = rw is refl in
@@ -164,7 +168,8 @@ apart_from n c clear = both (n == c.from) (n == c.into) clear
     both false w e = (refl, e)
     both true w e = absurd cc
 
-untouched_nothing : (o : Shape) (k : Constraint) (c : Column) → touches (node_of k) c ≡ false → touches (second_node_of k) c ≡ false → touches (third_node_of k) c ≡ false → (weighing_of o k).weight c ≡ pos 0
+untouched_nothing : (o : Shape) (k : Constraint) (c : Column) → touches (node_of k) c ≡ false
+    → touches (second_node_of k) c ≡ false → touches (third_node_of k) c ≡ false → (weighing_of o k).weight c ≡ pos 0
 untouched_nothing o (Flow n) c x y z = let a = apart_from n c x in rw (a.0, a.1) refl
 untouched_nothing o (Most s header n high) c x y z = let a = apart_from n c x in let h = apart_from header c y in rw (a.0, h.1) (omega (arith, ints))
 untouched_nothing o (Least s header n low) c x y z = let a = apart_from n c x in let h = apart_from header c y in rw (a.0, h.1) (omega (arith, ints))
@@ -220,7 +225,9 @@ sought_next f cs d end p q z xs ys zs xs' ys' zs' terms more s below long weighs
     let above = least_above (p + 1) xs' (least_of ys' (least_of zs' end)) taken.first (least_above (p + 1) ys' (least_of zs' end) taken.second (least_above (p + 1) zs' end taken.third taken.low)) in
     (on, omega (arith, above, is))
 
-made_upto : (f : Column → ℤ) (g : ℕ → ℤ) (e : ℕ) (cs : List Column) → ((j : ℕ) → j < length cs → g (e + j) ≡ weight_at f cs j) → terms_upto g e ++ terms_from f e cs ≡ terms_upto g (e + length cs)
+made_upto : (f : Column → ℤ) (g : ℕ → ℤ) (e : ℕ) (cs : List Column)
+    → ((j : ℕ) → j < length cs → g (e + j) ≡ weight_at f cs j)
+    → terms_upto g e ++ terms_from f e cs ≡ terms_upto g (e + length cs)
 made_upto f g e [] same = append-nil (terms_upto g e) ∙ (let s : e ≡ e + 0 = omega arith in ap (λ (k : ℕ). terms_upto g k) s)
 made_upto f g e (c ∷ cs) same =
     let here : f c ≡ g e = sym (same 0 (omega arith)) ∙ (let s : e + 0 ≡ e = omega arith in ap g s) in
@@ -232,7 +239,8 @@ made_upto f g e (c ∷ cs) same =
     ∙ made_upto f g (e + 1) cs later ∙ ap (λ (k : ℕ). terms_upto g k) count
 
 -- and its end
-pub sought_all : (f : Column → ℤ) (cs : List Column) (end p : ℕ) (xs ys zs : List ℕ) (terms : List (ℕ × ℤ)) → IsSought (weight_at f cs) end p xs ys zs terms → end ≤ p → end ≡ length cs
+pub sought_all : (f : Column → ℤ) (cs : List Column) (end p : ℕ) (xs ys zs : List ℕ) (terms : List (ℕ × ℤ))
+    → IsSought (weight_at f cs) end p xs ys zs terms → end ≤ p → end ≡ length cs
     → terms ≡ terms_from f 0 cs
 sought_all f cs end p xs ys zs terms s over long =
     let low = s.low in

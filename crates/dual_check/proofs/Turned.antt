@@ -16,7 +16,8 @@ use Rattle.dual_check.specs.Terms.{term_if}
 use Rattle.dual_check.specs.Systems.{columns_from, AreColumns}
 
 -- a list more without a term
-pub nothing_more : (lists : List (List (ℕ × ℤ))) (n : ℕ) → ((m : ℕ) → get_or lists m [] ≡ []) → get_or (lists ++ [] ∷ []) n [] ≡ []
+pub nothing_more : (lists : List (List (ℕ × ℤ))) (n : ℕ) → ((m : ℕ) → get_or lists m [] ≡ [])
+    → get_or (lists ++ [] ∷ []) n [] ≡ []
 nothing_more [] zero none = refl
 nothing_more [] (suc n) none = refl
 nothing_more (l ∷ lists) zero none = none 0
@@ -35,7 +36,8 @@ one_term : (b : ℕ) (z : ℤ) → z ≢ pos 0 → (b, z) ∷ [] ≡ term_if b z
 one_term b z some = by_test (vanishes z) (λ none. absurd (some (vanish_is z none))) (λ clear. rw clear refl)
 
 -- a term put into the list of its column
-pub put_more : (old new : List (List (ℕ × ℤ))) (b : ℕ) (t : ℕ × ℤ) (ts : List (ℕ × ℤ)) (e : ℕ) (all : List (ℕ × ℤ)) → t.0 < length old → IsAscending (t ∷ ts) → AreSome (t ∷ ts)
+pub put_more : (old new : List (List (ℕ × ℤ))) (b : ℕ) (t : ℕ × ℤ) (ts : List (ℕ × ℤ)) (e : ℕ) (all : List (ℕ × ℤ))
+    → t.0 < length old → IsAscending (t ∷ ts) → AreSome (t ∷ ts)
     → get_or old e [] ++ term_if b (coefficient (t ∷ ts) e) ≡ all → new ≡ slice_set old t.0 (get_or old t.0 [] ++ (b, t.1) ∷ [])
     → get_or new e [] ++ term_if b (coefficient ts e) ≡ all
 put_more old new b t ts e all below rises some is next = elim (cases_eq e t.0) [
@@ -57,9 +59,11 @@ pub record IsPut (n b : ℕ) (old lists : List (List (ℕ × ℤ))) (rest all : 
   pub within : IsWithin n rest
   pub ascending : IsAscending rest
   pub some : AreSome rest
-  pub put : (e : ℕ) → get_or lists e [] ++ term_if b (coefficient rest e) ≡ get_or old e [] ++ term_if b (coefficient all e)
+  pub put : (e : ℕ)
+      → get_or lists e [] ++ term_if b (coefficient rest e) ≡ get_or old e [] ++ term_if b (coefficient all e)
 
-pub put_next : (n b : ℕ) (old lists new : List (List (ℕ × ℤ))) (t : ℕ × ℤ) (ts rest all : List (ℕ × ℤ)) → IsPut n b old lists rest all → rest ≡ t ∷ ts
+pub put_next : (n b : ℕ) (old lists new : List (List (ℕ × ℤ))) (t : ℕ × ℤ) (ts rest all : List (ℕ × ℤ))
+    → IsPut n b old lists rest all → rest ≡ t ∷ ts
     → new ≡ slice_set lists t.0 (get_or lists t.0 [] ++ (b, t.1) ∷ []) → IsPut n b old new ts all
 put_next n b old lists new t ts rest all i is next =
     let within : IsWithin n (t ∷ ts) = subst (λ (xs : List (ℕ × ℤ)). IsWithin n xs) is i.within in
@@ -76,17 +80,20 @@ put_next n b old lists new t ts rest all i is next =
           (ap (λ xs. get_or lists e [] ++ term_if b (coefficient xs e)) (sym is) ∙ i.put e) next;
     }
 
-pub put_all : (n b : ℕ) (old lists : List (List (ℕ × ℤ))) (rest all : List (ℕ × ℤ)) → IsPut n b old lists rest all → rest ≡ [] → (e : ℕ) → get_or lists e [] ≡ get_or old e [] ++ term_if b (coefficient all e)
+pub put_all : (n b : ℕ) (old lists : List (List (ℕ × ℤ))) (rest all : List (ℕ × ℤ)) → IsPut n b old lists rest all
+    → rest ≡ [] → (e : ℕ) → get_or lists e [] ≡ get_or old e [] ++ term_if b (coefficient all e)
 put_all n b old lists rest all i is e =
     let empty : term_if b (coefficient rest e) ≡ [] = rw is refl in
     sym (append-nil (get_or lists e [])) ∙ ap (λ xs. get_or lists e [] ++ xs) (sym empty) ∙ i.put e
 
 -- ---- one row
 
-row_step : (e b : ℕ) (r : Row) (rows : List Row) → term_if b (coefficient r.terms e) ++ column_terms e (b + 1) rows ≡ column_terms e b (r ∷ rows)
+row_step : (e b : ℕ) (r : Row) (rows : List Row)
+    → term_if b (coefficient r.terms e) ++ column_terms e (b + 1) rows ≡ column_terms e b (r ∷ rows)
 row_step e b r rows = by_test (vanishes (coefficient r.terms e)) (λ none. rw none refl) (λ some. rw some refl)
 
-pub turned_more : (old new : List (List (ℕ × ℤ))) (b e : ℕ) (r : Row) (rows all : List Row) → get_or old e [] ++ column_terms e b (r ∷ rows) ≡ column_terms e 0 all
+pub turned_more : (old new : List (List (ℕ × ℤ))) (b e : ℕ) (r : Row) (rows all : List Row)
+    → get_or old e [] ++ column_terms e b (r ∷ rows) ≡ column_terms e 0 all
     → get_or new e [] ≡ get_or old e [] ++ term_if b (coefficient r.terms e) → get_or new e [] ++ column_terms e (b + 1) rows ≡ column_terms e 0 all
 turned_more old new b e r rows all is next =
     ap (λ xs. xs ++ column_terms e (b + 1) rows) next ∙ append_assoc (get_or old e []) (term_if b (coefficient r.terms e)) (column_terms e (b + 1) rows)
@@ -94,7 +101,8 @@ turned_more old new b e r rows all is next =
 
 -- ---- all rows
 
-lists_from : (n b : ℕ) (rows : List Row) (lists : List (List (ℕ × ℤ))) → length lists ≡ n → ((e : ℕ) → e < n → get_or lists e [] ≡ column_terms (b + e) 0 rows) → lists ≡ columns_from n b rows
+lists_from : (n b : ℕ) (rows : List Row) (lists : List (List (ℕ × ℤ))) → length lists ≡ n
+    → ((e : ℕ) → e < n → get_or lists e [] ≡ column_terms (b + e) 0 rows) → lists ≡ columns_from n b rows
 lists_from zero b rows [] long same = refl
 lists_from zero b rows (l ∷ lists) long same = absurd (omega arith)
 lists_from (suc n) b rows [] long same = absurd (omega arith)
@@ -103,7 +111,8 @@ lists_from (suc n) b rows (l ∷ lists) long same =
     let later = lists_from n (b + 1) rows lists (omega arith) (λ e below. same (suc e) (omega arith) ∙ (let s : b + suc e ≡ (b + 1) + e = omega arith in ap (λ (k : ℕ). column_terms k 0 rows) s)) in
     ap (λ x. x ∷ lists) here ∙ ap (λ xs. column_terms b 0 rows ∷ xs) later
 
-pub turned_all : (n b : ℕ) (rows rest : List Row) (lists : List (List (ℕ × ℤ))) → length lists ≡ n → length rest ≡ 0 → ((e : ℕ) → get_or lists e [] ++ column_terms e b rest ≡ column_terms e 0 rows) → AreColumns n rows lists
+pub turned_all : (n b : ℕ) (rows rest : List Row) (lists : List (List (ℕ × ℤ))) → length lists ≡ n → length rest ≡ 0
+    → ((e : ℕ) → get_or lists e [] ++ column_terms e b rest ≡ column_terms e 0 rows) → AreColumns n rows lists
 turned_all n b rows (r ∷ rest) lists long is same = absurd (omega arith)
 turned_all n b rows [] lists long is same = lists_from n 0 rows lists long
     (λ e below. sym (append-nil (get_or lists e [])) ∙ same e ∙ (let s : e ≡ 0 + e = omega arith in ap (λ (k : ℕ). column_terms k 0 rows) s))

@@ -23,7 +23,8 @@ fn no_marks(alloc: Global, count: u32) -> Result<Vec<bool>, AllocError>
 #[tactic(auto, using(crate::proofs::MarkedNodes::marked, crate::proofs::MarkedNodes::past))]
 fn mark(marks: &mut [bool], node: u32)
     ensures count { length marks.new ≡ length marks.old }
-    ensures marks { (n : ℕ) → n < length marks.old → get_or marks.new n false ≡ (get_or marks.old n false || n == node) }
+    ensures marks { (n : ℕ) → n < length marks.old
+        → get_or marks.new n false ≡ (get_or marks.old n false || n == node) }
 {
     if (node as usize) < marks.len() {
         marks[node as usize] = true;
@@ -34,7 +35,8 @@ fn mark(marks: &mut [bool], node: u32)
 #[tactic(auto, using(crate::proofs::MarkedNodes::same))]
 fn mark_alarm(marks: &mut [bool], fact: Fact)
     ensures count { length marks.new ≡ length marks.old }
-    ensures marks { (n : ℕ) → n < length marks.old → get_or marks.new n false ≡ (get_or marks.old n false || is_alarm_at n fact) }
+    ensures marks { (n : ℕ) → n < length marks.old
+        → get_or marks.new n false ≡ (get_or marks.old n false || is_alarm_at n fact) }
 {
     match fact {
         Fact::Alarm(node, _) => mark(marks, node),

@@ -44,7 +44,8 @@ fn push_row(lists: &mut [ColumnTerms], row: u32, terms: &[(u32, i128)]) -> Resul
     requires ascending { IsAscending terms.now }
     requires some { AreSome terms.now }
     ensures count { OnOk result (length lists.new ≡ length lists.old) }
-    ensures terms { OnOk result ((e : ℕ) → get_or lists.new e [] ≡ get_or lists.old e [] ++ term_if row (coefficient terms.now e)) }
+    ensures terms { OnOk result
+        ((e : ℕ) → get_or lists.new e [] ≡ get_or lists.old e [] ++ term_if row (coefficient terms.now e)) }
 {
     let mut rest = terms;
     while let Some((term, others)) = rest.split_first() {

@@ -3,7 +3,8 @@
 ghost use Rattle.std.specs.Prelude.{◌≡◌, ◌<◌, ◌==◌, ◌^◌, ◌*ℤ◌, ◌≤ℤ◌, ◌<ℤ◌, pos, length};
 ghost use Rattle.domain_core.specs.Outlines.{shape_of};
 ghost use Rattle.ipet_rows.specs.Weights.{one_if, leaves as leaves_of, enters as enters_of};
-ghost use Rattle.dual_check.specs.Constraints.{weighing_of, begins_at, is_limit_of, node_of, second_node_of, third_node_of};
+ghost use Rattle.dual_check.specs.Constraints.{weighing_of, begins_at, is_limit_of, node_of, second_node_of};
+ghost use Rattle.dual_check.specs.Constraints.{third_node_of};
 ghost use Rattle.dual_check.specs.Small.{ConstraintFits};
 
 use crate::column::Column;

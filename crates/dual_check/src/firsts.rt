@@ -25,7 +25,8 @@ fn no_numbers(alloc: Global, count: u32) -> Result<Vec<Option<u32>>, AllocError>
 #[tactic(auto, using(crate::proofs::FirstNumbers::noted, crate::proofs::FirstNumbers::kept, crate::proofs::FirstNumbers::past))]
 fn note(firsts: &mut [Option<u32>], node: u32, number: u32)
     ensures count { length firsts.new ≡ length firsts.old }
-    ensures firsts { (n : ℕ) → n < length firsts.old → get_or firsts.new n None ≡ or_later (get_or firsts.old n None) (if n == node then Some number else None) }
+    ensures firsts { (n : ℕ) → n < length firsts.old
+        → get_or firsts.new n None ≡ or_later (get_or firsts.old n None) (if n == node then Some number else None) }
 {
     if (node as usize) < firsts.len() {
         if firsts[node as usize].is_none() {
@@ -38,7 +39,9 @@ fn note(firsts: &mut [Option<u32>], node: u32, number: u32)
 #[tactic(auto, using(crate::proofs::FirstNumbers::same))]
 fn note_limit(firsts: &mut [Option<u32>], constraint: Constraint, number: u32)
     ensures count { length firsts.new ≡ length firsts.old }
-    ensures firsts { (n : ℕ) → n < length firsts.old → get_or firsts.new n None ≡ or_later (get_or firsts.old n None) (if is_limit_of n constraint then Some number else None) }
+    ensures firsts { (n : ℕ) → n < length firsts.old
+        → get_or firsts.new n None
+        ≡ or_later (get_or firsts.old n None) (if is_limit_of n constraint then Some number else None) }
 {
     match constraint {
         Constraint::Limit(node, _) => note(firsts, node, number),
@@ -55,7 +58,9 @@ pub fn first_limits(
 ) -> Result<Vec<Option<u32>>, AllocError>
     requires { length constraints.now < 2 ^ 32 }
     ensures count { IfOk result (λ firsts. length firsts.items ≡ nodes) }
-    ensures firsts { IfOk result (λ firsts. (n : ℕ) → n < nodes → get_or firsts.items n None ≡ place_of (λ k. is_limit_of n k) 0 constraints.now) }
+    ensures firsts { IfOk result
+        (λ firsts. (n : ℕ) → n < nodes
+        → get_or firsts.items n None ≡ place_of (λ k. is_limit_of n k) 0 constraints.now) }
 {
     let mut firsts = no_numbers(alloc, nodes)?;
     let slots = firsts.as_mut_slice();
@@ -78,7 +83,8 @@ pub fn first_columns(
 ) -> Result<Vec<Option<u32>>, AllocError>
     requires { length columns.now < 2 ^ 32 }
     ensures count { IfOk result (λ firsts. length firsts.items ≡ nodes) }
-    ensures firsts { IfOk result (λ firsts. (n : ℕ) → n < nodes → get_or firsts.items n None ≡ place_of (λ c. n == c.from) 0 columns.now) }
+    ensures firsts { IfOk result
+        (λ firsts. (n : ℕ) → n < nodes → get_or firsts.items n None ≡ place_of (λ c. n == c.from) 0 columns.now) }
 {
     let mut firsts = no_numbers(alloc, nodes)?;
     let slots = firsts.as_mut_slice();

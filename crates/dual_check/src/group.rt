@@ -74,7 +74,8 @@ fn push_group(
     facts: &[Fact],
 ) -> Result<(), AllocError>
     requires { All (λ f. IsAbout (shape_of outline.now) f) facts.now }
-    ensures { OnOk result (out.new.items ≡ out.old.items ++ flat_map (λ f. group_of (shape_of outline.now) group f) facts.now) }
+    ensures { OnOk result
+        (out.new.items ≡ out.old.items ++ flat_map (λ f. group_of (shape_of outline.now) group f) facts.now) }
 {
     for fact in facts {
         push_fact(out, outline, group, *fact)?;
@@ -101,7 +102,8 @@ fn first_pairs(
     facts: &[Fact],
 ) -> Result<Vec<Constraint>, AllocError>
     requires { All (λ f. IsAbout (shape_of outline.now) f) facts.now }
-    ensures { IfOk result (λ out. out.items ≡ take 128 (flat_map (λ f. group_of (shape_of outline.now) Pairs f) facts.now)) }
+    ensures { IfOk result
+        (λ out. out.items ≡ take 128 (flat_map (λ f. group_of (shape_of outline.now) Pairs f) facts.now)) }
 {
     let mut out = Vec::new(alloc);
     push_group(&mut out, outline, Group::Pairs, facts)?;

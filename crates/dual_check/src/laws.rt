@@ -13,7 +13,9 @@ ghost use Rattle.dual_check.specs.Openings.{costs_of, system_of};
 /// that it tells, and so at most the bound: where the facts fit the outline, and there is an alarm for
 /// the run's fault if it has one.
 pub fn verdicts_bound_each_run()
-    ensures { (o : Outlined) → IsOutline (shape_of o) → (facts : List Fact) (fault : Bool) (k : ℕ) (past : List ℕ) → IsEnded (shape_of o) facts fault (k ∷ past)
-        → FitOutline (shape_of o) facts → MeetFacts (shape_of o) (reverse (k ∷ past)) facts → (v bound : ℕ) → BoundsAll (system_of o facts).program v bound
+    ensures { (o : Outlined) → IsOutline (shape_of o) → (facts : List Fact) (fault : Bool) (k : ℕ) (past : List ℕ)
+        → IsEnded (shape_of o) facts fault (k ∷ past)
+        → FitOutline (shape_of o) facts → MeetFacts (shape_of o) (reverse (k ∷ past)) facts → (v bound : ℕ)
+        → BoundsAll (system_of o facts).program v bound
         → (run_cost (costs_of o) (k ∷ past) ≤ v) × (v ≤ bound) }
 {}

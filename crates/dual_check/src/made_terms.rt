@@ -44,7 +44,8 @@ pub fn row_terms(
     requires few { length columns.now < 2 ^ 32 }
     requires nodes { AreFrom (length outline.now.nodes) columns.now }
     requires touching { AreTouching columns.now touching.now }
-    ensures { IfOk result (λ terms. terms.items ≡ terms_from (weighing_of (shape_of outline.now) constraint).weight 0 columns.now) }
+    ensures { IfOk result
+        (λ terms. terms.items ≡ terms_from (weighing_of (shape_of outline.now) constraint).weight 0 columns.now) }
 {
     let mut terms = Vec::new(alloc);
     let end = columns.len() as u32;

@@ -46,7 +46,9 @@ fn is_marked(marks: &[bool], node: u32) -> bool
 /// Appends the fault columns of the nodes that are marked.
 fn push_faults(out: &mut Vec<Column>, end: u32, marks: &[bool]) -> Result<(), AllocError>
     requires { length marks.now ≡ end }
-    ensures { OnOk result (out.new.items ≡ out.old.items ++ flat_map (λ n. fault_if end n (get_or marks.now n false)) (range_with_len 0 end)) }
+    ensures { OnOk result
+        (out.new.items
+        ≡ out.old.items ++ flat_map (λ n. fault_if end n (get_or marks.now n false)) (range_with_len 0 end)) }
 {
     for node in 0..end {
         push_fault(out, end, node, is_marked(marks, node))?;

@@ -23,7 +23,8 @@ fn right_of(rows: &Rows, row: u32) -> Whole
 fn sum_of_rights(rows: &Rows, multipliers: &[i128]) -> Result<Whole, u32>
     requires { length multipliers.now ≡ length rows.now.program.rows }
     ensures { MatchResult result
-        (λ sum. (first_wide (length rows.now.program.rows) (right_part rows.now.program multipliers.now) ≡ None) × (sum ≡ total (length rows.now.program.rows) (right_part rows.now.program multipliers.now)))
+        (λ sum. (first_wide (length rows.now.program.rows) (right_part rows.now.program multipliers.now) ≡ None)
+        × (sum ≡ total (length rows.now.program.rows) (right_part rows.now.program multipliers.now)))
         (λ k. first_wide (length rows.now.program.rows) (right_part rows.now.program multipliers.now) ≡ Some k) }
 {
     let mut sum = Whole::of(0);

@@ -1,6 +1,7 @@
 //! The program that an outline and a report's facts make.
 
-ghost use Rattle.std.specs.Prelude.{◌≡◌, ◌<◌, ◌++◌, ◌^◌, ◌-◌, ◌↔◌, ℕ, IsTrue, None, map, All, OnOk, IfOk, length, get_or};
+ghost use Rattle.std.specs.Prelude.{◌≡◌, ◌<◌, ◌++◌, ◌^◌, ◌-◌, ◌↔◌, ℕ, IsTrue, None, map, All, OnOk, IfOk, length};
+ghost use Rattle.std.specs.Prelude.{get_or};
 ghost use Rattle.domain_core.specs.Outlines.{shape_of};
 ghost use Rattle.flow_facts.specs.Facts.{IsAbout};
 ghost use Rattle.ipet_rows.specs.Programs.{cost_at};
@@ -58,7 +59,8 @@ fn row_list(
 ) -> Result<Vec<RowTerms>, AllocError>
     requires few { length columns.now < 2 ^ 32 }
     requires nodes { AreFrom (length outline.now.nodes) columns.now }
-    ensures rows { IfOk result (λ rows. rows.items ≡ map (λ k. row_of columns.now (weighing_of (shape_of outline.now) k)) constraints.now) }
+    ensures rows { IfOk result
+        (λ rows. rows.items ≡ map (λ k. row_of columns.now (weighing_of (shape_of outline.now) k)) constraints.now) }
     ensures fits { IfOk result (λ rows. All ConstraintFits constraints.now) }
 {
     let touching = touching(alloc, outline.node_count(), columns)?;

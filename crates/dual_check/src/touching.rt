@@ -37,7 +37,8 @@ fn push_column(lists: &mut [Places], column: Column, number: u32) -> Result<(), 
     requires from { column.from < length lists.old }
     requires into { column.into < length lists.old }
     ensures count { OnOk result (length lists.new ≡ length lists.old) }
-    ensures places { OnOk result ((n : ℕ) → get_or lists.new n [] ≡ get_or lists.old n [] ++ place_if number (touches n column)) }
+    ensures places { OnOk result
+        ((n : ℕ) → get_or lists.new n [] ≡ get_or lists.old n [] ++ place_if number (touches n column)) }
 {
     push_place(lists, column.from(), number)?;
     if column.from() == column.into() {

@@ -58,7 +58,8 @@ fn span(words: &str) -> Span {
 
 // The flow chart of a text: a fork for each node, and the numbers at the start.
 pub fn chart_of(alloc: Global, outline: &Outline, words: &str, first: &str) -> Result<Chart, Fail>
-    ensures { IfOk result (λ chart. IsAlong Span ℕ (shape_of outline.now) (chart_machine chart.forks.items chart.first)) }
+    ensures { IfOk result
+        (λ chart. IsAlong Span ℕ (shape_of outline.now) (chart_machine chart.forks.items chart.first)) }
 {
     match Chart::new(outline, forks(alloc, words)?, span(first)) {
         Some(chart) => Ok(chart),

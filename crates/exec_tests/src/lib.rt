@@ -1,5 +1,5 @@
-//! Tests of explorations, of what they record, and of their reports: `abstract_exec`, `flow_recorders`, `pair_recorder` and
-//! `flow_reports`, at the flow charts and walks of `exec_toys`. Without tests this library is empty.
+//! Tests of explorations, of what they record, and of their reports: `abstract_exec`, `flow_recorders`, `pair_recorder`
+//! and `flow_reports`, at the flow charts and walks of `exec_toys`. Without tests this library is empty.
 //!
 //! - `policies`: whole explorations of small flow charts by each policy.
 //! - `events`: events one by one, allowed and not.

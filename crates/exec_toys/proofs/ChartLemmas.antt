@@ -16,7 +16,8 @@ use Rattle.exec_toys.specs.Charts.{way_of, lowered, low_part, high_part, next_if
 -- It goes along an outline.
 
 -- a successor by a way that lies along an edge
-next_on : (edges : List (ℕ × ℕ)) (some : Bool) (n : ℕ) (way : Way) (t u : Span) (k : ℕ) → IsWayAlong edges n way → Contains (next_if some way t) (k, u) → Contains edges (n, k)
+next_on : (edges : List (ℕ × ℕ)) (some : Bool) (n : ℕ) (way : Way) (t u : Span) (k : ℕ) → IsWayAlong edges n way
+    → Contains (next_if some way t) (k, u) → Contains edges (n, k)
 next_on edges false n way t u k along has = no_member (k, u) has
 next_on edges true n (Fails fault) t u k along has = no_member (k, u) has
 next_on edges true n (Goes to less) t u k along has =
@@ -25,13 +26,16 @@ next_on edges true n (Goes to less) t u k along has =
     (λ none. no_member (k, u) none)
 
 -- the way that a number takes lies along an edge
-way_on : (edges : List (ℕ × ℕ)) (n c k less : ℕ) (fork : Fork) → IsWayAlong edges n fork.below × IsWayAlong edges n fork.above → way_of fork c ≡ Goes k less → Contains edges (n, k)
+way_on : (edges : List (ℕ × ℕ)) (n c k less : ℕ) (fork : Fork)
+    → IsWayAlong edges n fork.below × IsWayAlong edges n fork.above → way_of fork c ≡ Goes k less
+    → Contains edges (n, k)
 way_on edges n c k less fork (below, above) is =
     by_test (nat_lt c fork.limit)
     (λ under. let way : fork.below ≡ Goes k less = rw under at is in subst (λ (w : Way). IsWayAlong edges n w) way below)
     (λ over. let way : fork.above ≡ Goes k less = rw over at is in subst (λ (w : Way). IsWayAlong edges n w) way above)
 
-pub chart_along : (forks : List Fork) (span : Span) (o : Shape) → IsOutline o → length forks ≡ length o.own → AreForksAlong o.edges forks → IsAlong Span ℕ o (chart_machine forks span)
+pub chart_along : (forks : List Fork) (span : Span) (o : Shape) → IsOutline o → length forks ≡ length o.own
+    → AreForksAlong o.edges forks → IsAlong Span ℕ o (chart_machine forks span)
 chart_along forks span o outlined many along = record {
   exit_is = many;
   next_along = λ n k t u fits has. next_edge n k t u (slice_get forks n) refl has;
@@ -42,7 +46,8 @@ chart_along forks span o outlined many along = record {
   ends_along = λ n c (less, (fork, found, way)). subst (λ (k : ℕ). Contains o.edges (n, k)) many (way_on o.edges n c (length forks) less fork (along n fork found) way);
 }
   where
-    next_edge : (n k : ℕ) (t u : Span) (fork : Option Fork) → slice_get forks n ≡ fork → Contains (next_at fork t) (k, u) → Contains o.edges (n, k)
+    next_edge : (n k : ℕ) (t u : Span) (fork : Option Fork) → slice_get forks n ≡ fork
+        → Contains (next_at fork t) (k, u) → Contains o.edges (n, k)
     next_edge n k t u None found has = no_member (k, u) has
     next_edge n k t u (Some fork) found has =
         let firsts : List (ℕ × Span) = next_if (nat_lt t.least fork.limit) fork.below (low_part t fork.limit) in

@@ -52,7 +52,8 @@ fails_so : (way : Way) (fault : RunFault) → way ≡ Fails fault → has_fault 
 fails_so way fault is = subst (λ (w : Way). has_fault (faults_if true w) fault ≡ true) (sym is) (is_new no_faults fault)
 
 -- the successor of a number that takes a way
-finds : (fork : Fork) (t : Span) (c k less : ℕ) → IsIn t c → way_of fork c ≡ Goes k less → (u : Span) × Contains (next_of fork t) (k, u) × IsIn u (c - less)
+finds : (fork : Fork) (t : Span) (c k less : ℕ) → IsIn t c → way_of fork c ≡ Goes k less
+    → (u : Span) × Contains (next_of fork t) (k, u) × IsIn u (c - less)
 finds fork t c k less within is =
     let (low, high) = within in
     let firsts : List (ℕ × Span) = next_if (nat_lt t.least fork.limit) fork.below (low_part t fork.limit) in
@@ -83,7 +84,8 @@ in_second a b fault there = is_united a b fault ∙ rw there (or_true (has_fault
     or_true false = refl
 
 -- the fault of a number that takes a way
-tells : (fork : Fork) (t : Span) (c : ℕ) (fault : RunFault) → IsIn t c → way_of fork c ≡ Fails fault → has_fault (faults_of fork t) fault ≡ true
+tells : (fork : Fork) (t : Span) (c : ℕ) (fault : RunFault) → IsIn t c → way_of fork c ≡ Fails fault
+    → has_fault (faults_of fork t) fault ≡ true
 tells fork t c fault within is =
     let (low, high) = within in
     let firsts : FaultSet = faults_if (nat_lt t.least fork.limit) fork.below in

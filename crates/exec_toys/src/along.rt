@@ -21,7 +21,8 @@ pub fn go_along<R: Recorder>(
     requires room { R.recording.length_of recorder.old + length walk.now < 2 ^ 32 - 1 }
     ensures recorder { OnOk result (R.recording.is_of outline.now recorder.new) }
     ensures book { OnOk result (R.recording.book_is_of outline.now book.new) }
-    ensures length { OnOk result (R.recording.length_of recorder.new ≤ R.recording.length_of recorder.old + length walk.now) }
+    ensures length { OnOk result
+        (R.recording.length_of recorder.new ≤ R.recording.length_of recorder.old + length walk.now) }
 {
     if walk.is_empty() {
         return Ok(false);

@@ -23,7 +23,8 @@ impl Chart {
     /// The flow chart of these forks, one for each node of the outline. `None` where there are not as
     /// many, or a way lies along no edge.
     pub fn new(outline: &Outline, forks: Vec<Fork>, first: Span) -> Option<Chart>
-        ensures along { IfSome result (λ chart. IsAlong Span ℕ (shape_of outline.now) (chart_machine chart.forks.items chart.first)) }
+        ensures along { IfSome result
+            (λ chart. IsAlong Span ℕ (shape_of outline.now) (chart_machine chart.forks.items chart.first)) }
         ensures forks { IfSome result (λ chart. chart.forks.items ≡ forks.items) }
         ensures first { IfSome result (λ chart. chart.first ≡ first) }
     {

@@ -91,9 +91,9 @@ pub fn checked_text(alloc: Global, text: &str) -> Result<Checked, &'static str> 
 
 /// The program whose `main` has these items, checked.
 ///
-/// `.` is a return, `;` a statement that does nothing, `@A` the label A, `^A` a jump to it, `!f` a call of f; after `/f` stand
-/// the items of a further function f. A switch on a constant is `?A` with its first target A, further targets `,B`, and
-/// `|C` for all other words.
+/// `.` is a return, `;` a statement that does nothing, `@A` the label A, `^A` a jump to it, `!f` a call of f; after
+/// `/f` stand the items of a further function f. A switch on a constant is `?A` with its first target A, further
+/// targets `,B`, and `|C` for all other words.
 pub fn program_of(alloc: Global, items: &str) -> Result<Checked, &'static str> {
     match text_of(alloc, items) {
         Ok(text) => checked_text(alloc, text.as_str()),

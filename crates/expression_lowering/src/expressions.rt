@@ -39,8 +39,11 @@ pub fn value_of(
     e: &Expr,
 ) -> Result<Typed, AllocError>
     requires { (unit_of table.now).words ≡ scopes.now.words }
-    ensures kind { IfOk result (λ v. v.kind ≡ type_of (unit_of table.now).words scopes.now.scopes (expression_of e.now)) }
-    ensures value { IfOk result (λ v. alf.expression_of v.value ≡ values.value_of (program_in table.now) scopes.now.scopes (expression_of e.now)) }
+    ensures kind { IfOk result
+        (λ v. v.kind ≡ type_of (unit_of table.now).words scopes.now.scopes (expression_of e.now)) }
+    ensures value { IfOk result
+        (λ v. alf.expression_of v.value
+        ≡ values.value_of (program_in table.now) scopes.now.scopes (expression_of e.now)) }
 {
     match e {
         Expr::Constant(token) => Ok(constant_value(table, *token)),
@@ -90,8 +93,12 @@ fn operand_of(
     operand: &Expr,
 ) -> Result<Typed, AllocError>
     requires { (unit_of table.now).words ≡ scopes.now.words }
-    ensures kind { IfOk result (λ v. v.kind ≡ type_of (unit_of table.now).words scopes.now.scopes (expression_of operand.now)) }
-    ensures value { IfOk result (λ v. alf.expression_of v.value ≡ operand_of op (values.value_of (program_in table.now) scopes.now.scopes (expression_of operand.now)) (values.address_of (program_in table.now) scopes.now.scopes (expression_of operand.now))) }
+    ensures kind { IfOk result
+        (λ v. v.kind ≡ type_of (unit_of table.now).words scopes.now.scopes (expression_of operand.now)) }
+    ensures value { IfOk result
+        (λ v. alf.expression_of v.value
+        ≡ operand_of op (values.value_of (program_in table.now) scopes.now.scopes (expression_of operand.now))
+        (values.address_of (program_in table.now) scopes.now.scopes (expression_of operand.now))) }
 {
     match op {
         Unary::Not => value_of(alloc, table, scopes, operand),
@@ -107,7 +114,10 @@ fn operand_of(
 fn element_of(alloc: Global, base: Typed, index: Typed) -> Result<Element, AllocError>
     ensures base { IfOk result (λ v. v.base ≡ kinds.kind_or_int base.kind) }
     ensures kind { IfOk result (λ v. v.kind ≡ on_both types.index_type base.kind index.kind) }
-    ensures at { IfOk result (λ v. alf.expression_of v.at ≡ values.element_address (kinds.kind_or_int base.kind) (kinds.kind_or_int index.kind) (alf.expression_of base.value) (alf.expression_of index.value)) }
+    ensures at { IfOk result
+        (λ v. alf.expression_of v.at
+        ≡ values.element_address (kinds.kind_or_int base.kind) (kinds.kind_or_int index.kind)
+        (alf.expression_of base.value) (alf.expression_of index.value)) }
 {
     let (a, b) = (kind_or_int(base.kind), kind_or_int(index.kind));
     let kind = index_kind(base.kind, index.kind);
@@ -125,8 +135,11 @@ pub fn address_of(
     e: &Expr,
 ) -> Result<Typed, AllocError>
     requires { (unit_of table.now).words ≡ scopes.now.words }
-    ensures kind { IfOk result (λ v. v.kind ≡ type_of (unit_of table.now).words scopes.now.scopes (expression_of e.now)) }
-    ensures value { IfOk result (λ v. alf.expression_of v.value ≡ values.address_of (program_in table.now) scopes.now.scopes (expression_of e.now)) }
+    ensures kind { IfOk result
+        (λ v. v.kind ≡ type_of (unit_of table.now).words scopes.now.scopes (expression_of e.now)) }
+    ensures value { IfOk result
+        (λ v. alf.expression_of v.value
+        ≡ values.address_of (program_in table.now) scopes.now.scopes (expression_of e.now)) }
 {
     match e {
         Expr::Constant(token) => Ok(Typed {

@@ -33,7 +33,8 @@ fn constant_type(worth: Worth) -> Scalar
 /// A constant.
 pub fn constant_value(table: &Table<'_>, token: u32) -> Typed
     ensures kind { result.kind ≡ Some (names.constant_type (names.worth_at (unit_of table.now).words token)) }
-    ensures value { alf.expression_of result.value ≡ values.constant_of (names.worth_at (unit_of table.now).words token) }
+    ensures value { alf.expression_of result.value
+        ≡ values.constant_of (names.worth_at (unit_of table.now).words token) }
 {
     let worth = table.words().worth_at(token);
     Typed {
@@ -45,7 +46,8 @@ pub fn constant_value(table: &Table<'_>, token: u32) -> Typed
 // What a name that is bound so gives, where its object lies at this address.
 fn bound_value(alloc: Global, bound: &Bound, at: Term) -> Result<Typed, AllocError>
     ensures kind { IfOk result (λ v. v.kind ≡ laws.value_type (bound_of bound.now)) }
-    ensures value { IfOk result (λ v. alf.expression_of v.value ≡ values.bound_value (bound_of bound.now) (alf.expression_of at)) }
+    ensures value { IfOk result
+        (λ v. alf.expression_of v.value ≡ values.bound_value (bound_of bound.now) (alf.expression_of at)) }
 {
     match bound {
         Bound::Variable(kind) => {
@@ -85,8 +87,12 @@ pub fn name_value(
     token: u32,
 ) -> Result<Typed, AllocError>
     requires { (unit_of table.now).words ≡ scopes.now.words }
-    ensures kind { IfOk result (λ v. v.kind ≡ laws.type_at (names.look_up (unit_of table.now).words scopes.now.scopes token)) }
-    ensures value { IfOk result (λ v. alf.expression_of v.value ≡ values.name_value (names.look_up (unit_of table.now).words scopes.now.scopes token) (values.place_of (program_in table.now) scopes.now.scopes token)) }
+    ensures kind { IfOk result
+        (λ v. v.kind ≡ laws.type_at (names.look_up (unit_of table.now).words scopes.now.scopes token)) }
+    ensures value { IfOk result
+        (λ v. alf.expression_of v.value
+        ≡ values.name_value (names.look_up (unit_of table.now).words scopes.now.scopes token)
+        (values.place_of (program_in table.now) scopes.now.scopes token)) }
 {
     match scopes.look_up(token) {
         Some(entry) => {
@@ -111,8 +117,10 @@ pub fn name_address(
     token: u32,
 ) -> Result<Typed, AllocError>
     requires { (unit_of table.now).words ≡ scopes.now.words }
-    ensures kind { IfOk result (λ v. v.kind ≡ laws.type_at (names.look_up (unit_of table.now).words scopes.now.scopes token)) }
-    ensures value { IfOk result (λ v. alf.expression_of v.value ≡ values.place_of (program_in table.now) scopes.now.scopes token) }
+    ensures kind { IfOk result
+        (λ v. v.kind ≡ laws.type_at (names.look_up (unit_of table.now).words scopes.now.scopes token)) }
+    ensures value { IfOk result
+        (λ v. alf.expression_of v.value ≡ values.place_of (program_in table.now) scopes.now.scopes token) }
 {
     match scopes.look_up(token) {
         Some(entry) => {

@@ -36,7 +36,9 @@ pub fn unary_kind(
     operand: &Expr,
     given: Option<Scalar>,
 ) -> Option<Scalar>
-    ensures { result ≡ option_and_then (types.unary_type op (laws.designates scopes.now.words scopes.now.scopes (expression_of operand.now))) given }
+    ensures { result
+        ≡ option_and_then
+        (types.unary_type op (laws.designates scopes.now.words scopes.now.scopes (expression_of operand.now))) given }
 {
     match given {
         Some(given) => unary_type(op, designates(scopes, operand), given),

@@ -26,7 +26,8 @@ total_bounded (suc n) c f each =
     omega (arith, ints, rest, last)
 
 -- where costs and totals have 16 bits, the sum over the openings fits 64 bits
-pub room_left : (o : Outlined) (facts : List Fact) → All IsLow facts → AreCheap o → length o.nodes < 2 ^ 32 → opening_sum o facts <ℤ pos (2 ^ 64)
+pub room_left : (o : Outlined) (facts : List Fact) → All IsLow facts → AreCheap o → length o.nodes < 2 ^ 32
+    → opening_sum o facts <ℤ pos (2 ^ 64)
 room_left o facts low cheap few =
     let most = openings_within o facts (λ n. 65535) (λ n least high there. All-contains IsLow facts (Total n least high) low there) in
     let sum = total_bounded (length o.nodes) (65535 * 65535) (λ n. pos (slice_index (costs_of o) n * 65535))
@@ -36,7 +37,8 @@ room_left o facts low cheap few =
 -- ---- the loops
 
 -- one node more that is limited
-pub limited_more : (facts : List Fact) (n : ℕ) → ((k : ℕ) → k < n → IsLimited facts k) → IsLimited facts n → (k : ℕ) → k < n + 1 → IsLimited facts k
+pub limited_more : (facts : List Fact) (n : ℕ) → ((k : ℕ) → k < n → IsLimited facts k) → IsLimited facts n → (k : ℕ)
+    → k < n + 1 → IsLimited facts k
 limited_more facts n so_far is k low = elim (cases_eq k n) [
   | inl same ↦ subst (λ (i : ℕ). IsLimited facts i) (sym same) is
   | inr other ↦ so_far k (omega (arith, low, other))

@@ -3,8 +3,8 @@
 use crate::tables::hold;
 use std::test::Fail;
 
-// The items of a program and its costs, and facts with the rows that they make: the costs, the rows with `=` or `<`, the
-// right side, and the terms as a column and a number, and the openings.
+// The items of a program and its costs, and facts with the rows that they make: the costs, the rows with `=` or `<`,
+// the right side, and the terms as a column and a number, and the openings.
 const ROWS: &str = r"rows | . | 0 1
 # A program that ends at once.
 T 0 1 1, T 1 1 1 => costs 0 1;= 1: 0*1;= 0: 0*-1 1*1;< 1: 0*1;< -1: 0*-1;< 1: 1*1;< -1: 1*-1;openings 2-0 4-1
@@ -45,8 +45,8 @@ fn coefficients_are_those_of_terms(rt: HostRuntime) -> Result<(), Fail> {
     hold(rt.alloc(), SUMS)
 }
 
-// Multipliers, one for each row, and a bound, with the verdict. The facts are those of a loop of ten turns; rows 9, 11, 13
-// and 15 are the greatest totals of nodes 1 to 4.
+// Multipliers, one for each row, and a bound, with the verdict. The facts are those of a loop of ten turns; rows 9, 11,
+// 13 and 15 are the greatest totals of nodes 1 to 4.
 const VERDICTS: &str =
     r"verdict | ; @A ?C |B @B ; ^A @C . | 0 1 1 1 1 | L 1 11 11, T 0 1 1, T 1 1 1, T 2 11 11, T 3 10 10, T 4 1 1
 0 0 0 0 0 0 0 0 0 1 0 1 0 1 0 1 0 | 23 => Holds(23)

@@ -28,8 +28,9 @@ pub fn number(word: &str) -> u32 {
 
 /// Fails with the first row that is not answered as it is due.
 ///
-/// A table has sections, with an empty line between two. The first line of a section is the begin of a case, each further
-/// line a row: the rest of the case, ` => `, and the answer that is due. A line that begins with `#` is a remark.
+/// A table has sections, with an empty line between two. The first line of a section is the begin of a case, each
+/// further line a row: the rest of the case, ` => `, and the answer that is due. A line that begins with `#` is a
+/// remark.
 pub fn hold(alloc: Global, table: &str) -> Result<(), Fail> {
     for section in table.split("\n\n") {
         let rows = side(section, "\n", 1);

@@ -86,7 +86,8 @@ heading_stays : Stays heading (λ f. (f ≡ 1) ⊎ (f ≡ 2))
 unfolding heading
 heading_stays = stays (λ room. begins_passes (codes "facts") >>- λ _ _. next_word_passes >>- λ t _. keeps (told_stays (form_of t) (λ f. (f ≡ 1) ⊎ (f ≡ 2)) (forms t)) room)
   where
-    at_test : (t : Lexeme) (f : ℕ) (b : Bool) → cond b (Ok 1) (only_if (bytes_eq t.text (codes "2")) 2 t.left) ≡ Ok f → (f ≡ 1) ⊎ (f ≡ 2)
+    at_test : (t : Lexeme) (f : ℕ) (b : Bool) → cond b (Ok 1) (only_if (bytes_eq t.text (codes "2")) 2 t.left) ≡ Ok f
+        → (f ≡ 1) ⊎ (f ≡ 2)
     at_test t f true e = inl (sym (ok_is {F = Fault} 1 f e))
     at_test t f false e = inr (sym (passed (bytes_eq t.text (codes "2")) 2 f t.left e).1)
 
@@ -119,11 +120,14 @@ parent_stays : Stays parent (λ p. IfSome p IsNumber)
 unfolding parent
 parent_stays = stays (λ room. next_word_passes >>- λ t _. keeps (told_stays (parent_of t) (λ p. IfSome p IsNumber) (λ p e. at_dash t p (bytes_eq t.text (codes "-")) e)) room)
   where
-    at_number : (t : Lexeme) (p : Option ℕ) (r : Result ℕ Fault) → number_within (2 ^ 32 - 1) t.text t.left ≡ r → ◌≡◌ {A = Result (Option ℕ) Fault} (and_then r (λ s. Ok (Some s))) (Ok p) → IfSome p IsNumber
+    at_number : (t : Lexeme) (p : Option ℕ) (r : Result ℕ Fault) → number_within (2 ^ 32 - 1) t.text t.left ≡ r
+        → ◌≡◌ {A = Result (Option ℕ) Fault} (and_then r (λ s. Ok (Some s))) (Ok p) → IfSome p IsNumber
     at_number t p (Ok n) k e = let lt : IsNumber n = omega (arith, within_bounds (2 ^ 32 - 1) t.text t.left n k) in subst (λ p. IfSome p IsNumber) (ok_is {F = Fault} (Some n) p e) lt
     at_number t p (Err f) k e = ok_no_err p f e
 
-    at_dash : (t : Lexeme) (p : Option ℕ) (b : Bool) → cond b (Ok None) (and_then (number_within (2 ^ 32 - 1) t.text t.left) (λ s. Ok (Some s))) ≡ Ok p → IfSome p IsNumber
+    at_dash : (t : Lexeme) (p : Option ℕ) (b : Bool)
+        → cond b (Ok None) (and_then (number_within (2 ^ 32 - 1) t.text t.left) (λ s. Ok (Some s))) ≡ Ok p
+        → IfSome p IsNumber
     at_dash t p true e = subst (λ p. IfSome p IsNumber) (ok_is {F = Fault} None p e) tt
     at_dash t p false e = at_number t p (number_within (2 ^ 32 - 1) t.text t.left) refl e
 
@@ -139,7 +143,8 @@ scope_stays n = stays (λ room. begins_passes (codes "scope") >>- λ _ _. number
 -- ---- chains
 
 module _ {A : Type 0} (goes : A → Place → Bool) (p : A → Rule true A) (Q : A → Type 0) (each : (x : A) → Q x → Stays (p x) Q) where
-  turns_keep : (n : ℕ) (x : A) → Q x → (at : Place) (y : A) (rest : Place) → Each Any at.ahead → InTurn goes (λ y. (p y).form) n x at y rest → Q y × (rest.room ≡ at.room) × Each Any rest.ahead
+  turns_keep : (n : ℕ) (x : A) → Q x → (at : Place) (y : A) (rest : Place) → Each Any at.ahead
+      → InTurn goes (λ y. (p y).form) n x at y rest → Q y × (rest.room ≡ at.room) × Each Any rest.ahead
   turns_keep zero x q at y rest g h = (subst Q (sym h.0) q, ap (λ (p : Place). p.room) h.1, subst (λ (p : Place). Each Any p.ahead) (sym h.1) g)
   turns_keep (suc n) x q at y rest g h =
       let k = (each x q).each at h.1.0 h.1.1 g h.1.2 in
@@ -214,7 +219,8 @@ alarm_stays : Stays alarm_fact (IsKind 5)
 unfolding alarm_fact
 alarm_stays = stays (λ room. count_stays >>- λ n h. cause_passes >>- λ k _. done ((h, refl), refl))
 
-either_stays : {A : Type 0} {Q : A → Type 0} (b : Bool) (p q : Rule true A) → (b ≡ true → Stays p Q) → (b ≡ false → Stays q Q) → Stays (either b p q) Q
+either_stays : {A : Type 0} {Q : A → Type 0} (b : Bool) (p q : Rule true A) → (b ≡ true → Stays p Q)
+    → (b ≡ false → Stays q Q) → Stays (either b p q) Q
 either_stays true p q hp hq = hp refl
 either_stays false p q hp hq = hq refl
 
@@ -226,7 +232,8 @@ unknown_stays t = refused_stays
 abbrev IsNamed : Lexeme → Fact × ℕ → Type 0
 IsNamed w x = NumbersFit x.0 × (place_of_word w.text ≡ Some (kind_place x.0))
 
-named_so : (w : Lexeme) (k : ℕ) → place_of_word w.text ≡ Some k → (p : Rule true (Fact × ℕ)) → Stays p (IsKind k) → Stays p (IsNamed w)
+named_so : (w : Lexeme) (k : ℕ) → place_of_word w.text ≡ Some k → (p : Rule true (Fact × ℕ)) → Stays p (IsKind k)
+    → Stays p (IsNamed w)
 named_so w k e p h = weakened h (λ x i. (i.0, rw i.1 e))
 
 tail_stays : (w : Lexeme) → Stays (fact_tail w) (IsNamed w)
@@ -243,7 +250,8 @@ and_right : (a b : Bool) → a && b ≡ true → b ≡ true
 and_right true b h = h
 and_right false b h = absurd cc
 
-fits_form : (form : ℕ) (last : Option Fact) (f : Fact) → NumbersFit f → may_stand form last (Some (kind_place f)) ≡ true → low_fits f ≡ true → FactIsWritable form f
+fits_form : (form : ℕ) (last : Option Fact) (f : Fact) → NumbersFit f → may_stand form last (Some (kind_place f)) ≡ true
+    → low_fits f ≡ true → FactIsWritable form f
 fits_form form last (Loop s low high) h m l = (h.0, leb-true _ _ l, h.1)
 fits_form form last (Count s n low high) h m l = (eqb-true form 2 (and_right _ (form == 2) m), h.0, h.1, leb-true _ _ l, h.2)
 fits_form form last (Dead n) h m l = h
@@ -259,7 +267,8 @@ unfolding fact
 fact_stays form last = stays (λ room. line_word_passes >>- λ w _. check_stays (may_stand form last (place_of_word w.text)) w.left >>- λ _ m. tail_stays w >>- λ x h.
     check_stays (follows last x.0) w.left >>- λ _ o. keeps (told_stays (only_if (low_fits x.0) x.0 x.1) (IsNextFact form last) (λ f e. next w x f m h o (passed (low_fits x.0) x.0 f x.1 e))) room)
   where
-    next : (w : Lexeme) (x : Fact × ℕ) (f : Fact) → may_stand form last (place_of_word w.text) ≡ true → IsNamed w x → follows last x.0 ≡ true → (low_fits x.0 ≡ true) × (x.0 ≡ f) → IsNextFact form last f
+    next : (w : Lexeme) (x : Fact × ℕ) (f : Fact) → may_stand form last (place_of_word w.text) ≡ true → IsNamed w x
+        → follows last x.0 ≡ true → (low_fits x.0 ≡ true) × (x.0 ≡ f) → IsNextFact form last f
     next w x f m h o l =
         let k : may_stand form last (Some (kind_place x.0)) ≡ true = subst (λ (o : Option ℕ). may_stand form last o ≡ true) h.1 m in
         subst (IsNextFact form last) l.1 (fits_form form last x.0 h.0 k l.0, o)
@@ -278,14 +287,16 @@ before_is g f h = less_is _ h
 before_trans : (e f g : Fact) → IsBefore e f → IsBefore f g → IsBefore e g
 before_trans e f g h i = le_lt_trans nat_list_cmp_total (kind_place e ∷ numbers_of e) (kind_place f ∷ numbers_of f) (kind_place g ∷ numbers_of g) (rw h refl) i
 
-all_before : (fs : List Fact) (g : Fact) → AllPairs IsBefore fs → follows (last_of fs) g ≡ true → All (λ f. IsBefore f g) fs
+all_before : (fs : List Fact) (g : Fact) → AllPairs IsBefore fs → follows (last_of fs) g ≡ true
+    → All (λ f. IsBefore f g) fs
 all_before [] g h l = All-nil (λ f. IsBefore f g)
 all_before (f ∷ []) g h l = All-cons (λ f. IsBefore f g) f [] (before_is f g l) (All-nil (λ f. IsBefore f g))
 all_before (f ∷ e ∷ es) g h l =
     let later = all_before (e ∷ es) g (λ i j d lt within. h (suc i) (suc j) d (omega (arith, lt)) (omega (arith, within))) (last_is e es l) in
     All-cons (λ f. IsBefore f g) f (e ∷ es) (before_trans f e g (h 0 1 f (omega arith) (omega arith)) (All-head (λ f. IsBefore f g) e es later)) later
   where
-    last_is : (e : Fact) (es : List Fact) → follows (last_of (f ∷ e ∷ es)) g ≡ true → follows (last_of (e ∷ es)) g ≡ true
+    last_is : (e : Fact) (es : List Fact) → follows (last_of (f ∷ e ∷ es)) g ≡ true
+        → follows (last_of (e ∷ es)) g ≡ true
     last_is e es l = by_last (last_of es) l
       where
         by_last : (o : Option Fact) → follows (or_last f (or_last e o)) g ≡ true → follows (or_last e o) g ≡ true

@@ -17,7 +17,8 @@ module _ (bytes : List ℕ) where
   says_means (Err fault) h = (fault, h, refl)
 
   -- what is read is meant
-  pub read_means : (r : Result (Reported × Place) Fault) → report.form.reading (start bytes) ≡ r → Means bytes (meant bytes r)
+  pub read_means : (r : Result (Reported × Place) Fault) → report.form.reading (start bytes) ≡ r
+      → Means bytes (meant bytes r)
   read_means r e = says_means r (subst (Says report.form (start bytes)) e (report.exact.holds (start bytes)))
 
   means_read : (m : Result Reported Departure) → Means bytes m → meant bytes (report.form.reading (start bytes)) ≡ m

@@ -48,7 +48,8 @@ passed true x y left e = (refl, ok_is {F = Fault} x y e)
 passed false x y left e = ok_no_err y (Syntax left) e
 
 -- a word that is one of several
-picked : {A : Type 0} (P : A → Type 0) (text w : List ℕ) (x : A) (r : Result A Fault) → (text ≡ w → P x) → ((y : A) → r ≡ Ok y → P y) → (y : A) → cond (bytes_eq text w) (Ok x) r ≡ Ok y → P y
+picked : {A : Type 0} (P : A → Type 0) (text w : List ℕ) (x : A) (r : Result A Fault) → (text ≡ w → P x)
+    → ((y : A) → r ≡ Ok y → P y) → (y : A) → cond (bytes_eq text w) (Ok x) r ≡ Ok y → P y
 picked {A = A} P text w x r chosen others y e = by_word (bytes_eq text w) refl e
   where
     by_word : (b : Bool) → bytes_eq text w ≡ b → ◌≡◌ {A = Result A Fault} (cond b (Ok x) r) (Ok y) → P y
@@ -56,7 +57,8 @@ picked {A = A} P text w x r chosen others y e = by_word (bytes_eq text w) refl e
     by_word false t e = others y e
 
 -- the last of several
-last_picked : {A : Type 0} (P : A → Type 0) (text w : List ℕ) (x : A) (left : ℕ) → (text ≡ w → P x) → (y : A) → only_if (bytes_eq text w) x left ≡ Ok y → P y
+last_picked : {A : Type 0} (P : A → Type 0) (text w : List ℕ) (x : A) (left : ℕ) → (text ≡ w → P x) → (y : A)
+    → only_if (bytes_eq text w) x left ≡ Ok y → P y
 last_picked P text w x left chosen = picked P text w x (Err (Syntax left)) chosen (λ y e. ok_no_err y (Syntax left) e)
 
 -- ---- words
@@ -64,14 +66,16 @@ last_picked P text w x left chosen = picked P text w x (Err (Syntax left)) chose
 first_mark : (t u : Lexeme) → begins_line t ≡ Ok u → mark_of t ∷ [] ≡ marks.begins u.text ∷ []
 first_mark t u e = by_line t.line refl e
   where
-    by_line : (b : Bool) → t.line ≡ b → ◌≡◌ {A = Result Lexeme Fault} (cond b (Ok t) (Err (Syntax t.left))) (Ok u) → mark_of t ∷ [] ≡ marks.begins u.text ∷ []
+    by_line : (b : Bool) → t.line ≡ b → ◌≡◌ {A = Result Lexeme Fault} (cond b (Ok t) (Err (Syntax t.left))) (Ok u)
+        → mark_of t ∷ [] ≡ marks.begins u.text ∷ []
     by_line true l e = rw (l, ok_is {F = Fault} t u e) refl
     by_line false l e = ok_no_err u (Syntax t.left) e
 
 further_mark : (t u : Lexeme) → goes_on t ≡ Ok u → mark_of t ∷ [] ≡ a_word u.text ∷ []
 further_mark t u e = by_line t.line refl e
   where
-    by_line : (b : Bool) → t.line ≡ b → ◌≡◌ {A = Result Lexeme Fault} (cond b (Err (Syntax (suc t.left))) (Ok t)) (Ok u) → mark_of t ∷ [] ≡ a_word u.text ∷ []
+    by_line : (b : Bool) → t.line ≡ b → ◌≡◌ {A = Result Lexeme Fault} (cond b (Err (Syntax (suc t.left))) (Ok t)) (Ok u)
+        → mark_of t ∷ [] ≡ a_word u.text ∷ []
     by_line true l e = ok_no_err u (Syntax (suc t.left)) e
     by_line false l e = rw (l, ok_is {F = Fault} t u e) refl
 
@@ -83,7 +87,8 @@ next_word_takes : Takes next_word (λ t. a_word t.text ∷ [])
 unfolding next_word
 next_word_takes = one_spelt goes_on (λ t. a_word t.text ∷ []) further_mark
 
-same_begins : (text w : List ℕ) (left : ℕ) (x : Unit {0}) → check (bytes_eq text w) left ≡ Ok x → marks.begins text ∷ [] ≡ marks.begins w ∷ []
+same_begins : (text w : List ℕ) (left : ℕ) (x : Unit {0}) → check (bytes_eq text w) left ≡ Ok x
+    → marks.begins text ∷ [] ≡ marks.begins w ∷ []
 same_begins text w left x e = ap (λ (w : List ℕ). marks.begins w ∷ []) ((bytes_eq-Decides text w).0 (passed (bytes_eq text w) tt x left e).0)
 
 same_word : (text w : List ℕ) → text ≡ w → a_word text ∷ [] ≡ a_word w ∷ []
@@ -133,7 +138,8 @@ node_takes n = takes (begins_takes (codes "node") >>- λ _ _. numbered_takes n >
 parent_text : (t : Lexeme) (p : Option ℕ) → parent_of t ≡ Ok p → a_word t.text ≡ parent_mark p
 parent_text t = picked (λ (p : Option ℕ). a_word t.text ≡ parent_mark p) t.text (codes "-") None _ (λ e. ap a_word e) (λ p e. by_number p (number_within (2 ^ 32 - 1) t.text t.left) refl e)
   where
-    by_number : (p : Option ℕ) (r : Result ℕ Fault) → number_within (2 ^ 32 - 1) t.text t.left ≡ r → ◌≡◌ {A = Result (Option ℕ) Fault} (and_then r (λ s. Ok (Some s))) (Ok p) → a_word t.text ≡ parent_mark p
+    by_number : (p : Option ℕ) (r : Result ℕ Fault) → number_within (2 ^ 32 - 1) t.text t.left ≡ r
+        → ◌≡◌ {A = Result (Option ℕ) Fault} (and_then r (λ s. Ok (Some s))) (Ok p) → a_word t.text ≡ parent_mark p
     by_number p (Ok n) k e = ap a_word (count_text t n k) ∙ ap parent_mark (ok_is {F = Fault} (Some n) p e)
     by_number p (Err f) k e = ok_no_err p f e
 
@@ -157,7 +163,8 @@ scope_takes n = takes (begins_takes (codes "scope") >>- λ _ _. numbered_takes n
 one_longer : {A : Type 0} (done : List A) (x : A) → length (done ++ x ∷ []) ≡ suc (length done)
 one_longer done x = omega (arith, length-append done (x ∷ []))
 
-one_more : {A : Type 0} {line : List A → A → List Mark} (done : List A) (x : A) (ms : List Mark) → ms ≡ line done x → OneMore line done (done ++ x ∷ []) ms
+one_more : {A : Type 0} {line : List A → A → List Mark} (done : List A) (x : A) (ms : List Mark) → ms ≡ line done x
+    → OneMore line done (done ++ x ∷ []) ms
 one_more done x ms e = record { member = x; pushed = refl; lines = e }
 
 -- a chain whose lines are put together otherwise
@@ -241,14 +248,16 @@ unfolding alarm_fact
 alarm_takes = spelt (count_takes >>- λ n _. cause_takes >>- λ k _. done (refl, refl))
 
 -- one rule after this word, another after any other
-after_word_takes : {A : Type 0} {words : A → List Mark} (Q : List ℕ → A → Type 0) (w text : List ℕ) (p q : Rule true A) → Spelt p.form words (Q w) → Spelt q.form words (Q text) → Spelt (either (bytes_eq text w) p q).form words (Q text)
+after_word_takes : {A : Type 0} {words : A → List Mark} (Q : List ℕ → A → Type 0) (w text : List ℕ) (p q : Rule true A)
+    → Spelt p.form words (Q w) → Spelt q.form words (Q text) → Spelt (either (bytes_eq text w) p q).form words (Q text)
 after_word_takes {A = A} {words = words} Q w text p q hp hq = by_word (bytes_eq text w) refl
   where
     by_word : (b : Bool) → bytes_eq text w ≡ b → Spelt (either b p q).form words (Q text)
     by_word true t = subst (λ (u : List ℕ). Spelt p.form words (Q u)) (sym ((bytes_eq-Decides text w).0 t)) hp
     by_word false t = hq
 
-unknown_takes : {A : Type 0} {marks : A → List Mark} {Q : A → Type 0} (t : Lexeme) → Spelt (unknown {A = A} t).form marks Q
+unknown_takes : {A : Type 0} {marks : A → List Mark} {Q : A → Type 0} (t : Lexeme)
+    → Spelt (unknown {A = A} t).form marks Q
 unfolding unknown
 unknown_takes t = refused_spelt
 
@@ -267,7 +276,8 @@ unfolding fact
 fact_takes form last = takes (line_word_takes >>- λ w _. told_spelt (check (may_stand form last (place_of_word w.text)) w.left) >>- λ _ _. tail_takes w >>- λ x h.
     told_spelt (check (follows last x.0) w.left) >>- λ _ _. keeps (told_spelt (only_if (low_fits x.0) x.0 x.1)) (λ f e. whole_line w x f h (passed (low_fits x.0) x.0 f x.1 e).1))
   where
-    whole_line : (w : Lexeme) (x : Fact × ℕ) (f : Fact) → BeginsWith w.text x → x.0 ≡ f → marks.begins w.text ∷ (others_of (fact_marks x.0) ++ []) ≡ fact_marks f
+    whole_line : (w : Lexeme) (x : Fact × ℕ) (f : Fact) → BeginsWith w.text x → x.0 ≡ f
+        → marks.begins w.text ∷ (others_of (fact_marks x.0) ++ []) ≡ fact_marks f
     whole_line w x f h e = rw (append-nil (others_of (fact_marks x.0))) (h ∙ ap fact_marks e)
 
 abbrev fact_line : List Fact → Fact → List Mark
@@ -355,12 +365,15 @@ last_token t ts g e = (none t.text (omega (arith, e, g.0)), no_token ts (omega (
     no_token [] e = refl
     no_token (t ∷ ts) e = absurd (omega (arith, e))
 
-last_word : (ts : List Lexeme) → Placed ts → (at : Place) (u : Lexeme) → fit_first (λ (at : Place). Syntax 0) (λ t (at : Place). begins_line t) (first_of ts) at ≡ Ok u → u.left == 0 ≡ true
+last_word : (ts : List Lexeme) → Placed ts → (at : Place) (u : Lexeme)
+    → fit_first (λ (at : Place). Syntax 0) (λ t (at : Place). begins_line t) (first_of ts) at ≡ Ok u
+    → u.left == 0 ≡ true
     → (marks_of ts ≡ marks.begins [] ∷ []) × (others_of ts ≡ [])
 last_word [] g at u e z = ok_no_err u (Syntax 0) e
 last_word (t ∷ ts) g at u e z = by_line t.line refl e
   where
-    by_line : (b : Bool) → t.line ≡ b → ◌≡◌ {A = Result Lexeme Fault} (cond b (Ok t) (Err (Syntax t.left))) (Ok u) → (mark_of t ∷ marks_of ts ≡ marks.begins [] ∷ []) × (ts ≡ [])
+    by_line : (b : Bool) → t.line ≡ b → ◌≡◌ {A = Result Lexeme Fault} (cond b (Ok t) (Err (Syntax t.left))) (Ok u)
+        → (mark_of t ∷ marks_of ts ≡ marks.begins [] ∷ []) × (ts ≡ [])
     by_line true l e =
         let same : t ≡ u = ok_is {F = Fault} t u e in
         let k = last_token t ts g (ap (λ (v : Lexeme). v.left) same ∙ eqb-true u.left 0 z) in
@@ -370,7 +383,8 @@ last_word (t ∷ ts) g at u e z = by_line t.line refl e
 abbrev last_line : Rule true (Unit {0})
 last_line = line_word >>= λ t. told (check (t.left == 0) t.left)
 
-last_line_is : (at : Place) (x : Unit {0}) (rest : Place) → Placed at.ahead → last_line.form.Spells at x rest → (marks_of at.ahead ≡ marks.begins [] ∷ []) × (rest.ahead ≡ [])
+last_line_is : (at : Place) (x : Unit {0}) (rest : Place) → Placed at.ahead → last_line.form.Spells at x rest
+    → (marks_of at.ahead ≡ marks.begins [] ∷ []) × (rest.ahead ≡ [])
 unfolding line_word told
 last_line_is at x rest g h =
     let k = last_word at.ahead g at h.0 h.2.0 (passed (h.0.left == 0) tt x h.0.left h.3.0).0 in

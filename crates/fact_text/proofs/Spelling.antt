@@ -41,7 +41,8 @@ pub record Spelt {A : Type 0} (p : FormOf A) (marks : A → List Mark) (Q : A �
   pub each : (at : Place) (x : A) (rest : Place) → Placed at.ahead → p.Spells at x rest → Took at rest (marks x) × Q x
 
 pub record Goes {A : Type 0} (p : FormOf A) (Q : A → List Mark → Type 0) : Type 0 where
-  pub each : (at : Place) (x : A) (rest : Place) → Placed at.ahead → p.Spells at x rest → (marks : List Mark) × Took at rest marks × Q x marks
+  pub each : (at : Place) (x : A) (rest : Place) → Placed at.ahead → p.Spells at x rest
+      → (marks : List Mark) × Took at rest marks × Q x marks
 
 pub record Closes {A : Type 0} (p : FormOf A) : Type 0 where
   pub each : (at : Place) (x : A) (rest : Place) → Placed at.ahead → p.Spells at x rest → rest.ahead ≡ []
@@ -77,11 +78,13 @@ hp >>- hq = then_goes hp hq
 pub done : {A : Type 0} {a : A} {Q : A → List Mark → Type 0} → Q a [] → Goes (made a) Q
 done {A = A} {Q = Q} h = record { each = λ at x rest g s. ([], took_none at rest s.1 g, subst (λ (x : A). Q x []) (sym s.0) h) }
 
-pub keeps : {A : Type 0} {p : FormOf A} {marks : A → List Mark} {P : A → Type 0} {Q : A → List Mark → Type 0} → Spelt p marks P → ((x : A) → P x → Q x (marks x)) → Goes p Q
+pub keeps : {A : Type 0} {p : FormOf A} {marks : A → List Mark} {P : A → Type 0} {Q : A → List Mark → Type 0}
+    → Spelt p marks P → ((x : A) → P x → Q x (marks x)) → Goes p Q
 keeps {marks = marks} h f = record { each = λ at x rest g s. let k = h.each at x rest g s in (marks x, k.0, f x k.1) }
 
 -- a rule from its parts
-pub spelt : {A : Type 0} {p : FormOf A} {marks : A → List Mark} {Q : A → Type 0} → Goes p (λ x ms. (ms ≡ marks x) × Q x) → Spelt p marks Q
+pub spelt : {A : Type 0} {p : FormOf A} {marks : A → List Mark} {Q : A → Type 0} → Goes p (λ x ms. (ms ≡ marks x) × Q x)
+    → Spelt p marks Q
 spelt h = record { each = λ at x rest g s. let k = h.each at x rest g s in (subst (Took at rest) k.2.0 k.1, k.2.1) }
 
 -- a rule from its parts, where nothing further is said of its values
@@ -90,12 +93,15 @@ takes h = record { each = λ at x rest g s. let k = h.each at x rest g s in (sub
 
 -- ---- single tokens
 
-one_took : {A : Type 0} (fit : Lexeme → Result A Fault) (marks : A → List Mark) → ((t : Lexeme) (x : A) → fit t ≡ Ok x → mark_of t ∷ [] ≡ marks x) → (ts : List Lexeme) → Placed ts → (at : Place) (x : A)
+one_took : {A : Type 0} (fit : Lexeme → Result A Fault) (marks : A → List Mark)
+    → ((t : Lexeme) (x : A) → fit t ≡ Ok x → mark_of t ∷ [] ≡ marks x) → (ts : List Lexeme) → Placed ts
+    → (at : Place) (x : A)
     → fit_first (λ (at : Place). Syntax 0) (λ t (at : Place). fit t) (first_of ts) at ≡ Ok x → (marks_of ts ≡ marks x ++ marks_of (others_of ts)) × Placed (others_of ts)
 one_took fit marks h [] g at x e = ok_no_err x (Syntax 0) e
 one_took fit marks h (t ∷ ts) g at x e = (ap (λ (ms : List Mark). ms ++ marks_of ts) (h t x e), g.1)
 
-pub one_spelt : {A : Type 0} (fit : Lexeme → Result A Fault) (marks : A → List Mark) → ((t : Lexeme) (x : A) → fit t ≡ Ok x → mark_of t ∷ [] ≡ marks x)
+pub one_spelt : {A : Type 0} (fit : Lexeme → Result A Fault) (marks : A → List Mark)
+    → ((t : Lexeme) (x : A) → fit t ≡ Ok x → mark_of t ∷ [] ≡ marks x)
     → Spelt (one (λ (at : Place). Syntax 0) (λ t (at : Place). fit t)) marks Any
 one_spelt fit marks h = record {
   each = λ at x rest g s.
@@ -111,13 +117,15 @@ one_spelt fit marks h = record {
 pub judged_spelt : {A : Type 0} (r : Result A Fault) → Spelt (judged (λ (at : Place). r)) (λ x. []) (λ x. r ≡ Ok x)
 judged_spelt r = record { each = λ at x rest g s. (took_none at rest s.1 g, s.0) }
 
-pub refused_spelt : {A : Type 0} {fault : Place → Fault} {marks : A → List Mark} {Q : A → Type 0} → Spelt (refused fault) marks Q
+pub refused_spelt : {A : Type 0} {fault : Place → Fault} {marks : A → List Mark} {Q : A → Type 0}
+    → Spelt (refused fault) marks Q
 refused_spelt = record { each = λ at x rest g s. absurd s }
 
 -- ---- lists
 
 module _ {A : Type 0} (goes : Place → Bool) (p : FormOf A) (marks : A → List Mark) (h : Spelt p marks Any) where
-  row_took : (at : Place) (xs : List A) (rest : Place) → Placed at.ahead → InARow goes p at xs rest → Took at rest (flat_map marks xs)
+  row_took : (at : Place) (xs : List A) (rest : Place) → Placed at.ahead → InARow goes p at xs rest
+      → Took at rest (flat_map marks xs)
   row_took at [] rest g s = took_none at rest s g
   row_took at (x ∷ xs) rest g s =
       let k = (h.each at x s.1.0 g s.1.1).0 in
@@ -126,7 +134,8 @@ module _ {A : Type 0} (goes : Place → Bool) (p : FormOf A) (marks : A → List
   pub row_spelt : Spelt (row goes p) (flat_map marks) Any
   row_spelt = record { each = λ at xs rest g s. (row_took at xs rest g s.0, tt) }
 
-  maybe_took : (at : Place) (o : Option A) (rest : Place) → Placed at.ahead → AtMostOne goes p at o rest → Took at rest (if_any marks o)
+  maybe_took : (at : Place) (o : Option A) (rest : Place) → Placed at.ahead → AtMostOne goes p at o rest
+      → Took at rest (if_any marks o)
   maybe_took at None rest g s = took_none at rest s.1 g
   maybe_took at (Some x) rest g s = (h.each at x rest g s.1).0
 
@@ -153,7 +162,8 @@ pub record Grown {A : Type 0} (line : List A → A → List Mark) (done all : Li
   pub lines : Took at rest (all_lines line done members)
 
 module _ {A : Type 0} (goes : List A → Place → Bool) (p : List A → FormOf (List A)) (line : List A → A → List Mark) (each : (done : List A) → Goes (p done) (OneMore line done)) where
-  grown : (n : ℕ) (done : List A) (at : Place) (all : List A) (rest : Place) → Placed at.ahead → InTurn goes p n done at all rest → Grown line done all at rest
+  grown : (n : ℕ) (done : List A) (at : Place) (all : List A) (rest : Place) → Placed at.ahead
+      → InTurn goes p n done at all rest → Grown line done all at rest
   grown zero done at all rest g s = record { members = []; pushed = s.0 ∙ sym (append-nil done); lines = took_none at rest s.1 g }
   grown (suc n) done at all rest g s =
       let k = (each done).each at s.1.0 s.1.1 g s.1.2 in
@@ -176,7 +186,8 @@ module _ {A : Type 0} (goes : List A → Place → Bool) (p : List A → FormOf 
 
 -- ---- where no token is left
 
-pub then_closes : {A B : Type 0} {p : FormOf A} {q : A → FormOf B} {marks : A → List Mark} {P : A → Type 0} → Spelt p marks P → ((x : A) → Closes (q x)) → Closes (bound p q)
+pub then_closes : {A B : Type 0} {p : FormOf A} {q : A → FormOf B} {marks : A → List Mark} {P : A → Type 0}
+    → Spelt p marks P → ((x : A) → Closes (q x)) → Closes (bound p q)
 then_closes hp hq = record { each = λ at y rest g h. let k = hp.each at h.0 h.1 g h.2 in (hq h.0).each h.1 y rest k.0.placed h.3 }
 
 pub closes_as : {A B : Type 0} {p : FormOf A} {f : A → B} → Closes p → Closes (bound p (λ x. made (f x)))

@@ -25,7 +25,8 @@ with_byte_counted : (b : ℕ) (ts : List Lexeme) (n : ℕ) → Counted ts n → 
 with_byte_counted b [] n h = absurd (let e : 0 ≡ suc n = h.left in omega (arith, e))
 with_byte_counted b (t ∷ ts) n h = record { placed = (omega (arith, h.placed.0), h.placed.1); left = omega (arith, h.left) }
 
-word_counted : (line : Bool) (ts : List Lexeme) (n : ℕ) → Counted ts n → Counted (record { line = line; text = []; left = suc n } ∷ ts) (suc n)
+word_counted : (line : Bool) (ts : List Lexeme) (n : ℕ) → Counted ts n
+    → Counted (record { line = line; text = []; left = suc n } ∷ ts) (suc n)
 word_counted line ts n h = record { placed = (omega (arith, h.left), h.placed); left = refl }
 
 counted : (line quoted : Bool) (bytes : List ℕ) → Counted (tokens_from line quoted bytes) (length bytes)
@@ -41,7 +42,8 @@ same_bytes [] = refl
 same_bytes (t ∷ ts) = ap (λ (bs : List ℕ). token_bytes t ++ bs) (same_bytes ts)
 
 -- the words of a text that spells a report are those of the report's text
-report_words : (bytes : List ℕ) (whole : Reported) → SpellsReport bytes whole → marks_of (tokens_of bytes) ≡ report_marks whole
+report_words : (bytes : List ℕ) (whole : Reported) → SpellsReport bytes whole
+    → marks_of (tokens_of bytes) ≡ report_marks whole
 report_words bytes whole h =
     let placed : Placed (tokens_of bytes) = (counted true false bytes).placed in
     let took = (report_takes.each (start bytes) whole h.0 placed h.1).0 in

@@ -63,7 +63,8 @@ one_mark : (m : Mark) → is_mark m ≡ true → list_all is_mark (m ∷ []) ≡
 one_mark m h = rw h refl
 
 -- the tokens of marks before those of others
-pub tokens_append : (more : List Lexeme) (xs ys : List Mark) → tokens printing more (xs ++ ys) ≡ tokens printing (tokens printing more ys) xs
+pub tokens_append : (more : List Lexeme) (xs ys : List Mark)
+    → tokens printing more (xs ++ ys) ≡ tokens printing (tokens printing more ys) xs
 tokens_append more [] ys = refl
 tokens_append more (x ∷ xs) ys = ap (λ (ts : List Lexeme). token_before ts x ∷ ts) (tokens_append more xs ys)
 
@@ -189,7 +190,8 @@ one_longer done x = omega (arith, length-append done (x ∷ []))
 abbrev NodeFine : List NamedNode → NamedNode → Type 0
 NodeFine done x = IsNumber (length done) × NodeIsWritable x
 
-nodes_fine : (done xs : List NamedNode) → length done + length xs ≤ 2 ^ 32 → All NodeIsWritable xs → AllFine NodeFine done xs
+nodes_fine : (done xs : List NamedNode) → length done + length xs ≤ 2 ^ 32 → All NodeIsWritable xs
+    → AllFine NodeFine done xs
 nodes_fine done [] le w = tt
 nodes_fine done (x ∷ xs) le w =
     let l : length (done ++ x ∷ []) + length xs ≤ 2 ^ 32 = omega (arith, le, one_longer done x) in
@@ -202,12 +204,14 @@ node_lines : (done xs : List NamedNode) → all_lines node_line done xs ≡ node
 node_lines done [] = refl
 node_lines done (x ∷ xs) = rw (node_lines (done ++ x ∷ []) xs, one_longer done x) refl
 
-nodes_print : (xs : List NamedNode) → length xs ≤ 2 ^ 32 → All NodeIsWritable xs → list_all is_mark (nodes_marks 0 xs) ≡ true
+nodes_print : (xs : List NamedNode) → length xs ≤ 2 ^ 32 → All NodeIsWritable xs
+    → list_all is_mark (nodes_marks 0 xs) ≡ true
 nodes_print xs le w = rw (← node_lines [] xs)
     (lines_print node_begins next_node node_line NodeFine (λ done x h more. refl)
     (λ done x h. as_value (node_writes (length done) h.0 x h.1)) [] xs (nodes_fine [] xs (omega (arith, le)) w))
 
-nodes_read : (xs : List NamedNode) → length xs ≤ 2 ^ 32 → All NodeIsWritable xs → (more : List Lexeme) → line_is (codes "node") (after more) ≡ false
+nodes_read : (xs : List NamedNode) → length xs ≤ 2 ^ 32 → All NodeIsWritable xs → (more : List Lexeme)
+    → line_is (codes "node") (after more) ≡ false
     → (grow node_begins next_node []).form.reading (after (tokens printing more (nodes_marks 0 xs))) ≡ Ok (xs, after more)
 nodes_read xs le w more stops = rw (← node_lines [] xs)
     (grow_reads node_begins next_node node_line NodeFine (λ done x h more. refl)
@@ -219,7 +223,8 @@ nodes_read xs le w more stops = rw (← node_lines [] xs)
 abbrev ScopeFine : List ScopeRow → ScopeRow → Type 0
 ScopeFine done x = IsNumber (length done) × ScopeIsWritable x
 
-scopes_fine : (done xs : List ScopeRow) → length done + length xs ≤ 2 ^ 32 → All ScopeIsWritable xs → AllFine ScopeFine done xs
+scopes_fine : (done xs : List ScopeRow) → length done + length xs ≤ 2 ^ 32 → All ScopeIsWritable xs
+    → AllFine ScopeFine done xs
 scopes_fine done [] le w = tt
 scopes_fine done (x ∷ xs) le w =
     let l : length (done ++ x ∷ []) + length xs ≤ 2 ^ 32 = omega (arith, le, one_longer done x) in
@@ -232,12 +237,14 @@ scope_lines : (done xs : List ScopeRow) → all_lines scope_line done xs ≡ sco
 scope_lines done [] = refl
 scope_lines done (x ∷ xs) = rw (scope_lines (done ++ x ∷ []) xs, one_longer done x) refl
 
-scopes_print : (xs : List ScopeRow) → length xs ≤ 2 ^ 32 → All ScopeIsWritable xs → list_all is_mark (scopes_marks 0 xs) ≡ true
+scopes_print : (xs : List ScopeRow) → length xs ≤ 2 ^ 32 → All ScopeIsWritable xs
+    → list_all is_mark (scopes_marks 0 xs) ≡ true
 scopes_print xs le w = rw (← scope_lines [] xs)
     (lines_print scope_begins next_scope scope_line ScopeFine (λ done x h more. refl)
     (λ done x h. as_value (scope_writes (length done) h.0 x h.1)) [] xs (scopes_fine [] xs (omega (arith, le)) w))
 
-scopes_read : (xs : List ScopeRow) → length xs ≤ 2 ^ 32 → All ScopeIsWritable xs → (more : List Lexeme) → line_is (codes "scope") (after more) ≡ false
+scopes_read : (xs : List ScopeRow) → length xs ≤ 2 ^ 32 → All ScopeIsWritable xs → (more : List Lexeme)
+    → line_is (codes "scope") (after more) ≡ false
     → (grow scope_begins next_scope []).form.reading (after (tokens printing more (scopes_marks 0 xs))) ≡ Ok (xs, after more)
 scopes_read xs le w more stops = rw (← scope_lines [] xs)
     (grow_reads scope_begins next_scope scope_line ScopeFine (λ done x h more. refl)
@@ -272,7 +279,8 @@ fact_prints form (Alarm n k) w = by_cause k
     by_cause causes.Kind = rw (shows_count n w) refl
     by_cause causes.Pointers = rw (shows_count n w) refl
 
-cause_reads : (k : RunFault) (more : List Lexeme) → cause.form.reading (after (tokens printing more (a_word (fault_word k) ∷ []))) ≡ Ok (k, after more)
+cause_reads : (k : RunFault) (more : List Lexeme)
+    → cause.form.reading (after (tokens printing more (a_word (fault_word k) ∷ []))) ≡ Ok (k, after more)
 unfolding cause next_word told
 cause_reads causes.Divide more = refl
 cause_reads causes.Uninit more = refl
@@ -288,7 +296,8 @@ record IsNext (form : ℕ) (last : Option Fact) (f : Fact) : Type 0 where
   kind : leb (last_place last) (kind_place f) ≡ true
   order : follows last f ≡ true
 
-fact_reads : (form : ℕ) (last : Option Fact) (f : Fact) → IsNext form last f → (more : List Lexeme) → (fact form last).form.reading (after (tokens printing more (fact_marks f))) ≡ Ok (f, after more)
+fact_reads : (form : ℕ) (last : Option Fact) (f : Fact) → IsNext form last f → (more : List Lexeme)
+    → (fact form last).form.reading (after (tokens printing more (fact_marks f))) ≡ Ok (f, after more)
 unfolding fact fact_tail loop_fact count_fact dead_fact total_fact pair_fact alarm_fact bounds count number line_word next_word told place_of_word
 fact_reads form last (Loop s low high) w more = let f = w.fits in rw (w.kind, reads_count s _ f.0, reads_count low _ (omega (arith, f)), reads_count high _ f.2, w.order, le-leb low high f.1) refl
 fact_reads form last (Count s n low high) w more =
@@ -319,13 +328,16 @@ fact_starts (Alarm n k) more = refl
 abbrev FactFine : ℕ → List Fact → Fact → Type 0
 FactFine form done f = IsNext form (last_of done) f
 
-next_writes : (form : ℕ) (done : List Fact) (f : Fact) → FactFine form done f → Plain (next_fact form done) (fact_line done f) (done ++ f ∷ [])
+next_writes : (form : ℕ) (done : List Fact) (f : Fact) → FactFine form done f
+    → Plain (next_fact form done) (fact_line done f) (done ++ f ∷ [])
 next_writes form done f w = as_value (record { prints = fact_prints form f w.fits; reads = λ more free. fact_reads form (last_of done) f w more })
 
-facts_print : (form : ℕ) (fs : List Fact) → AllFine (FactFine form) [] fs → list_all is_mark (flat_map fact_marks fs) ≡ true
+facts_print : (form : ℕ) (fs : List Fact) → AllFine (FactFine form) [] fs
+    → list_all is_mark (flat_map fact_marks fs) ≡ true
 facts_print form fs w = rw (← fact_lines [] fs) (lines_print fact_begins (next_fact form) fact_line (FactFine form) (λ done f h more. fact_starts f more) (next_writes form) [] fs w)
 
-facts_read : (form : ℕ) (fs : List Fact) → AllFine (FactFine form) [] fs → (more : List Lexeme) → fact_begins [] (after more) ≡ false
+facts_read : (form : ℕ) (fs : List Fact) → AllFine (FactFine form) [] fs → (more : List Lexeme)
+    → fact_begins [] (after more) ≡ false
     → (grow fact_begins (next_fact form) []).form.reading (after (tokens printing more (flat_map fact_marks fs))) ≡ Ok (fs, after more)
 facts_read form fs w more stops = rw (← fact_lines [] fs)
     (grow_reads fact_begins (next_fact form) fact_line (FactFine form) (λ done f h more. fact_starts f more)
@@ -355,7 +367,8 @@ head_follows f (g ∷ gs) h = before_follows f g (h 0 1 f (omega arith) (omega a
 tail_ascends : (f : Fact) (fs : List Fact) → AllPairs IsBefore (f ∷ fs) → AllPairs IsBefore fs
 tail_ascends f fs h i j d lt within = h (suc i) (suc j) d (omega (arith, lt)) (omega (arith, within))
 
-facts_fine : (form : ℕ) (done fs : List Fact) → HeadFollows (last_of done) fs → AllPairs IsBefore fs → All (FactIsWritable form) fs → AllFine (FactFine form) done fs
+facts_fine : (form : ℕ) (done fs : List Fact) → HeadFollows (last_of done) fs → AllPairs IsBefore fs
+    → All (FactIsWritable form) fs → AllFine (FactFine form) done fs
 facts_fine form done [] head ascends w = tt
 facts_fine form done (f ∷ fs) head ascends w =
     let next : HeadFollows (last_of (done ++ f ∷ [])) fs = rw (last_push done f) (head_follows f fs ascends) in (
@@ -390,7 +403,8 @@ multiplier_writes : (z : ℤ) → IsLong z → Plain multiplier (multiplier_mark
 unfolding multiplier
 multiplier_writes z w = begins_writes (codes "mul") refl then λ _. as_value (whole_writes z w)
 
-cert_writes : (c : Certificate) → CertificateIsWritable c → Writes printing (line_is (codes "mul")) [] cert.form (cert_marks c) tt tt c
+cert_writes : (c : Certificate) → CertificateIsWritable c
+    → Writes printing (line_is (codes "mul")) [] cert.form (cert_marks c) tt tt c
 unfolding cert
 cert_writes c w =
     begins_writes (codes "cert") refl then λ _. grouped (flat_map event_marks c.events) (scale_marks c.scale) (flat_map multiplier_marks c.multipliers)
@@ -451,7 +465,8 @@ tail_reads r w =
       ending_reads,
     ) refl)
 
-path_prints : (b : Option (ℕ × BoundWord)) → IfSome b (λ bound. bound.0 < 2 ^ 64) → list_all is_mark (if_any path_bound_marks b) ≡ true
+path_prints : (b : Option (ℕ × BoundWord)) → IfSome b (λ bound. bound.0 < 2 ^ 64)
+    → list_all is_mark (if_any path_bound_marks b) ≡ true
 path_prints None w = refl
 path_prints (Some b) w = (path_bound_writes b w).prints
 
@@ -482,7 +497,8 @@ no_fact : (more : List Lexeme) → LineOfBound more → fact_begins [] (after mo
 unfolding place_of_word
 no_fact more h = rw h.2 refl
 
-no_scope : (fs : List Fact) (more : List Lexeme) → LineOfBound more → line_is (codes "scope") (after (tokens printing more (flat_map fact_marks fs))) ≡ false
+no_scope : (fs : List Fact) (more : List Lexeme) → LineOfBound more
+    → line_is (codes "scope") (after (tokens printing more (flat_map fact_marks fs))) ≡ false
 no_scope [] more h = rw h.2 refl
 no_scope (Loop s low high ∷ fs) more h = refl
 no_scope (Count s n low high ∷ fs) more h = refl
@@ -491,7 +507,8 @@ no_scope (Total n low high ∷ fs) more h = refl
 no_scope (Pair s a b ∷ fs) more h = refl
 no_scope (Alarm n k ∷ fs) more h = refl
 
-no_node_first : (fs : List Fact) (more : List Lexeme) → LineOfBound more → line_is (codes "node") (after (tokens printing more (flat_map fact_marks fs))) ≡ false
+no_node_first : (fs : List Fact) (more : List Lexeme) → LineOfBound more
+    → line_is (codes "node") (after (tokens printing more (flat_map fact_marks fs))) ≡ false
 no_node_first [] more h = rw h.2 refl
 no_node_first (Loop s low high ∷ fs) more h = refl
 no_node_first (Count s n low high ∷ fs) more h = refl
@@ -539,7 +556,8 @@ unfolding heading begins line_word next_word told
 heading_writes form (inl e) = rw (e, decimal_one) (record { prints = refl; reads = λ more free. refl })
 heading_writes form (inr e) = rw (e, decimal_two) (record { prints = refl; reads = λ more free. refl })
 
-report_reads : (r : Reported) → IsWritable r → report.form.reading (after (tokens printing [] (report_marks r))) ≡ Ok (r, after [])
+report_reads : (r : Reported) → IsWritable r
+    → report.form.reading (after (tokens printing [] (report_marks r))) ≡ Ok (r, after [])
 unfolding report
 report_reads r w =
     let t = tokens printing [] (tail_marks r) in
@@ -569,7 +587,8 @@ text_spells cut r w =
     (after [], rw e (reads_spells report (after (tokens printing [] (report_marks r))) r (after []) (report_reads r w)))
 
 -- reading gives one report
-pub texts_differ : EachPrintedTextIsCut → (r s : Reported) → IsWritable r → IsWritable s → report_text r ≡ report_text s → r ≡ s
+pub texts_differ : EachPrintedTextIsCut → (r s : Reported) → IsWritable r → IsWritable s → report_text r ≡ report_text s
+    → r ≡ s
 texts_differ cut r s w v e =
     let x = text_spells cut r w in
     let y : SpellsReport (report_text r) s = subst (λ text. SpellsReport text s) (sym e) (text_spells cut s v) in

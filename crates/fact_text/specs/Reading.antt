@@ -19,5 +19,6 @@ position r = record { ahead = ahead r.cursor; room = tt }
 abbrev pub lines : Reading Reader (FaultAt ℕ)
 lines = record { Token = Lexeme; Room = Unit {0}; Fault = Fault; position = position; fault_of = fault_of }
 
-abbrev pub Reads : {some : Bool} {X Y : Type 0} → Rule some Y → (X → Y) → Result X (FaultAt ℕ) → Reader → Reader → Type 0
+abbrev pub Reads : {some : Bool} {X Y : Type 0} → Rule some Y → (X → Y) → Result X (FaultAt ℕ) → Reader → Reader
+    → Type 0
 Reads rule view result before after = reading.Reads lines rule view result before after

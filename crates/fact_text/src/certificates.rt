@@ -4,7 +4,8 @@ ghost use Rattle.std.specs.Prelude.{◌≡◌, codes};
 ghost use Rattle.grammar.specs.Rule.{many};
 ghost use Rattle.flow_facts.specs.Reports.{certificate_of};
 ghost use Rattle.fact_words.specs.Ahead.{lexeme};
-ghost use Rattle.fact_text.specs.Grammar.{event_begins, step, merge, event_tail, event, scale, line_is, multiplier, cert};
+ghost use Rattle.fact_text.specs.Grammar.{event_begins, step, merge, event_tail, event, scale, line_is, multiplier};
+ghost use Rattle.fact_text.specs.Grammar.{cert};
 ghost use Rattle.fact_text.specs.Reading.{position, Reads};
 
 use crate::reader::Reader;

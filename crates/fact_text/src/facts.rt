@@ -4,7 +4,9 @@ ghost use Rattle.std.specs.Prelude.{◌≡◌, []};
 ghost use Rattle.grammar.specs.Chain.{grow};
 ghost use Rattle.fact_words.specs.Ahead.{lexeme};
 ghost use Rattle.flow_facts.specs.Writable.{kind_place};
-ghost use Rattle.fact_text.specs.Grammar.{place_of_word, fact_begins, last_place, may_stand, bounds, loop_fact, count_fact, dead_fact, total_fact, pair_fact, cause, alarm_fact, fact_tail, follows, low_fits, fact, last_of, next_fact};
+ghost use Rattle.fact_text.specs.Grammar.{place_of_word, fact_begins, last_place, may_stand, bounds, loop_fact};
+ghost use Rattle.fact_text.specs.Grammar.{count_fact, dead_fact, total_fact, pair_fact, cause, alarm_fact, fact_tail};
+ghost use Rattle.fact_text.specs.Grammar.{follows, low_fits, fact, last_of, next_fact};
 ghost use Rattle.fact_text.specs.Reading.{position, Reads};
 
 use crate::order::comes_before;

@@ -1,6 +1,7 @@
 //! Texts and what they mean.
 
-ghost use Rattle.std.specs.Prelude.{◌≡◌, ◌-◌, ◌<◌, ◌^◌, ◌↔◌, ℕ, IsTrue, List, length, Ok, Err, IfOk, IfErr, IfSome, IsSomeAnd};
+ghost use Rattle.std.specs.Prelude.{◌≡◌, ◌-◌, ◌<◌, ◌^◌, ◌↔◌, ℕ, IsTrue, List, length, Ok, Err, IfOk, IfErr, IfSome};
+ghost use Rattle.std.specs.Prelude.{IsSomeAnd};
 ghost use Rattle.flow_facts.specs.Reports.{reported};
 ghost use Rattle.flow_facts.specs.Writable.{IsWritable};
 ghost use Rattle.fact_text.specs.Reading.{fault_of};
@@ -22,7 +23,8 @@ use std::alloc::Global;
 pub fn read(alloc: Global, bytes: &[u8]) -> Result<Report, ReportFault>
     // A text means one thing (`one_meaning`), and this is it.
     ensures spelled { IfOk result (λ report. Means bytes.now (Ok (reported report))) }
-    ensures departs { IfErr result (λ fault. IfSome (departure_of fault) (λ departure. Means bytes.now (Err departure))) }
+    ensures departs { IfErr result
+        (λ fault. IfSome (departure_of fault) (λ departure. Means bytes.now (Err departure))) }
     // The condition of `print`.
     ensures writable { IfOk result (λ report. IsWritable (reported report)) }
     // Numbers of 32 bits count the nodes and the scopes, with one number left over.
@@ -46,7 +48,8 @@ fn is_few(count: usize) -> bool
 // The report that the text spells, however many lines it has.
 fn spelled(alloc: Global, bytes: &[u8]) -> Result<Report, ReportFault>
     ensures spelled { IfOk result (λ report. Means bytes.now (Ok (reported report))) }
-    ensures departs { IfErr result (λ fault. IfSome (departure_of fault) (λ departure. Means bytes.now (Err departure))) }
+    ensures departs { IfErr result
+        (λ fault. IfSome (departure_of fault) (λ departure. Means bytes.now (Err departure))) }
     ensures writable { IfOk result (λ report. IsWritable (reported report)) }
 {
     writable_reports_are_spelled();
@@ -64,7 +67,8 @@ pub fn one_meaning()
 
 // The departure with its place in the text.
 fn told(bytes: &[u8], departure: Departure) -> ReportFault
-    ensures { IfSome (departure_of result) (λ told. IsSomeAnd (fault_of departure) (λ fault. told ≡ placed bytes.now fault)) }
+    ensures { IfSome (departure_of result)
+        (λ told. IsSomeAnd (fault_of departure) (λ fault. told ≡ placed bytes.now fault)) }
 {
     match departure {
         Departure::Syntax(left) => ReportFault::Syntax(place_of(bytes, left)),

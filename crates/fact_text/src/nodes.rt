@@ -3,7 +3,8 @@
 ghost use Rattle.std.specs.Prelude.{map, []};
 ghost use Rattle.grammar.specs.Chain.{grow};
 ghost use Rattle.flow_facts.specs.Reports.{node_of};
-ghost use Rattle.fact_text.specs.Grammar.{numbered, name, node, next_node, node_begins, parent, scope_kind, scope, next_scope, scope_begins};
+ghost use Rattle.fact_text.specs.Grammar.{numbered, name, node, next_node, node_begins, parent, scope_kind, scope};
+ghost use Rattle.fact_text.specs.Grammar.{next_scope, scope_begins};
 ghost use Rattle.fact_text.specs.Reading.{Reads};
 
 use crate::reader::Reader;

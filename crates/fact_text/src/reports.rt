@@ -65,7 +65,8 @@ impl<'a> Reader<'a> {
     }
 
     fn maybe_cert(&mut self) -> Result<Option<Cert>, Departure>
-        ensures { Reads (maybe (line_is (codes "cert")) cert) (λ x. option_map certificate_of x) result self.old self.new }
+        ensures { Reads (maybe (line_is (codes "cert")) cert) (λ x. option_map certificate_of x) result self.old
+            self.new }
     {
         if !self.line_is(b"cert") {
             return Ok(None);

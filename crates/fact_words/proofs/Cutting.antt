@@ -24,17 +24,20 @@ first_token line quoted (b ∷ bs) = by_test (ends_word quoted b)
 -- ---- the tokens are the text
 
 -- the byte that ends a word is the one before the next
-ending : (b : ℕ) (x y : Bool) → b == 10 ≡ x → b == 32 ≡ y → (quoted : Bool) → x || (y && not quoted) ≡ true → separator x ≡ b
+ending : (b : ℕ) (x y : Bool) → b == 10 ≡ x → b == 32 ≡ y → (quoted : Bool) → x || (y && not quoted) ≡ true
+    → separator x ≡ b
 ending b true y e f quoted h = sym (eqb-true b 10 e)
 ending b false true e f quoted h = sym (eqb-true b 32 f)
 ending b false false e f quoted h = absurd cc
 
 -- the bytes of the first token go on with one more
-more_bytes : (b c : ℕ) (bs : List ℕ) (ts : List Lexeme) → flat_map token_bytes ts ≡ c ∷ bs → flat_map token_bytes (with_byte b ts) ≡ c ∷ b ∷ bs
+more_bytes : (b c : ℕ) (bs : List ℕ) (ts : List Lexeme) → flat_map token_bytes ts ≡ c ∷ bs
+    → flat_map token_bytes (with_byte b ts) ≡ c ∷ b ∷ bs
 more_bytes b c bs [] h = absurd cc
 more_bytes b c bs (t ∷ ts) h = let k : separator t.line ≡ c = cc in let l : t.text ++ flat_map token_bytes ts ≡ bs = cc in rw (k, l) refl
 
-pub tokens_are_text : (line quoted : Bool) (bytes : List ℕ) → flat_map token_bytes (tokens_from line quoted bytes) ≡ separator line ∷ bytes
+pub tokens_are_text : (line quoted : Bool) (bytes : List ℕ)
+    → flat_map token_bytes (tokens_from line quoted bytes) ≡ separator line ∷ bytes
 tokens_are_text line quoted [] = refl
 tokens_are_text line quoted (b ∷ bs) = by_test (ends_word quoted b)
     (λ t. let s : separator (b == 10) ≡ b = ending b (b == 10) (b == 32) refl refl quoted t in rw (t, tokens_are_text (b == 10) false bs, s) refl)

@@ -12,7 +12,8 @@ one_more : (n : ℕ) → 1 + n ≡ suc n
 one_more n = omega arith
 
 -- the part before the first quote, and those after it
-first_part : (text : List ℕ) → parts_of text ≡ take (prefix_len no_quote text) text ∷ further (drop (prefix_len no_quote text) text)
+first_part : (text : List ℕ)
+    → parts_of text ≡ take (prefix_len no_quote text) text ∷ further (drop (prefix_len no_quote text) text)
 first_part [] = refl
 first_part (b ∷ bs) = by_test (b == 34)
     (λ t. rw t refl)

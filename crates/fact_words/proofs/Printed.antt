@@ -17,7 +17,8 @@ not_true true h = absurd cc
 not_true false h = refl
 
 -- a word is cut whole at the end of the text
-word_last : (line quoted : Bool) (text : List ℕ) → goes_through quoted text ≡ true → tokens_from line quoted text ≡ record { line = line; text = text; left = length text } ∷ []
+word_last : (line quoted : Bool) (text : List ℕ) → goes_through quoted text ≡ true
+    → tokens_from line quoted text ≡ record { line = line; text = text; left = length text } ∷ []
 word_last line quoted [] h = refl
 word_last line quoted (b ∷ bs) h =
     let stays : ends_word quoted b ≡ false = not_true (ends_word quoted b) (and_left _ _ h) in
@@ -39,7 +40,8 @@ left_printed : (ms : List Mark) → length (flat_map printed ms) ≡ left_before
 left_printed [] = refl
 left_printed (m ∷ ms) = let l = length-append m.text (flat_map printed ms) in omega (arith, l, left_printed ms)
 
-marks_cut : (m : Mark) (ms : List Mark) → list_all is_mark (m ∷ ms) ≡ true → tokens_from m.line false (m.text ++ flat_map printed ms) ≡ tokens_before [] (m ∷ ms)
+marks_cut : (m : Mark) (ms : List Mark) → list_all is_mark (m ∷ ms) ≡ true
+    → tokens_from m.line false (m.text ++ flat_map printed ms) ≡ tokens_before [] (m ∷ ms)
 marks_cut m [] all =
     let l : length m.text + 0 ≡ length m.text = omega arith in
     let same : m.text ++ [] ≡ m.text = simp append-nil in
@@ -49,5 +51,6 @@ marks_cut m (n ∷ ns) all =
     let left : suc (length (n.text ++ flat_map printed ns)) ≡ left_before (tokens_before [] (n ∷ ns)) = left_printed (n ∷ ns) in
     rw (first, left, marks_cut n ns (and_right (is_mark m) _ all)) refl
 
-pub printed_cut : (first : Mark) (marks : List Mark) → first.line ≡ true → list_all is_mark (first ∷ marks) ≡ true → tokens_of (text_of_marks (first ∷ marks)) ≡ tokens_before [] (first ∷ marks)
+pub printed_cut : (first : Mark) (marks : List Mark) → first.line ≡ true → list_all is_mark (first ∷ marks) ≡ true
+    → tokens_of (text_of_marks (first ∷ marks)) ≡ tokens_before [] (first ∷ marks)
 printed_cut first marks begins all = rw (← begins) (marks_cut first marks all)

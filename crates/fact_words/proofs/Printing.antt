@@ -17,5 +17,6 @@ pub text_put : (w : List ℕ) (ms : List Mark) → all_put w ms ≡ text_of_mark
 text_put w ms = all-put ms w
 
 -- the parts of a report, one after the other
-pub report_put : (r : Reported) → all_put (all_put (all_put (codes "facts") (a_number r.form ∷ [])) (lists_marks r)) (tail_marks r) ≡ report_text r
+pub report_put : (r : Reported)
+    → all_put (all_put (all_put (codes "facts") (a_number r.form ∷ [])) (lists_marks r)) (tail_marks r) ≡ report_text r
 report_put r = rw (← text_put (codes "facts") (a_number r.form ∷ (lists_marks r ++ tail_marks r))) (simp fold-append)

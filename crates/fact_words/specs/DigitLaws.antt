@@ -82,7 +82,8 @@ digit_range d t = by_test (leb 48 d)
     (λ l. absurd (let k : false ≡ true = rw l at t in cc))
 
 -- no digit ends a word or opens quotes
-plain_goes : (ds ys : List ℕ) → list_all is_ascii_digit ds ≡ true → goes_through false (ds ++ ys) ≡ goes_through false ys
+plain_goes : (ds ys : List ℕ) → list_all is_ascii_digit ds ≡ true
+    → goes_through false (ds ++ ys) ≡ goes_through false ys
 plain_goes [] ys h = refl
 plain_goes (d ∷ ds) ys h = by_test (is_ascii_digit d)
     (λ t.
@@ -155,7 +156,8 @@ second true b h = h
 second false b h = absurd cc
 
 -- further digits are written after those of the number so far
-decimal_after : (n : ℕ) (ds : List ℕ) → 1 ≤ n → list_all is_ascii_digit ds ≡ true → number_after n ds < 10 ^ 64 → decimal (number_after n ds) ≡ decimal n ++ ds
+decimal_after : (n : ℕ) (ds : List ℕ) → 1 ≤ n → list_all is_ascii_digit ds ≡ true → number_after n ds < 10 ^ 64
+    → decimal (number_after n ds) ≡ decimal n ++ ds
 decimal_after n [] some all lt = simp append-nil
 decimal_after n (d ∷ ds) some all lt = by_test (is_ascii_digit d)
     (λ t.
@@ -177,7 +179,8 @@ no_more b [] e h = refl
 no_more b (d ∷ ds) e h = absurd (let k : ltb 0 (length (d ∷ ds)) ≡ false = rw e at h in grind (arith, k))
 
 -- digits without zeros before them are those of their number
-pub decimal_of : (ds : List ℕ) → is_numeral ds ≡ true → has_zeros ds ≡ false → number_of ds < 10 ^ 64 → decimal (number_of ds) ≡ ds
+pub decimal_of : (ds : List ℕ) → is_numeral ds ≡ true → has_zeros ds ≡ false → number_of ds < 10 ^ 64
+    → decimal (number_of ds) ≡ ds
 decimal_of [] some clean lt = absurd cc
 decimal_of (d ∷ ds) some clean lt = by_test (d == 48)
     (λ z. let e : d ≡ 48 = eqb-true d 48 z in let f : ds ≡ [] = no_more (d == 48) ds z clean in rw (e, f) (decimal_small 0 (omega arith)))
@@ -201,11 +204,13 @@ decimal_two = decimal_small 2 (omega arith)
 
 -- ---- what is read fits
 
-tested : {A : Type 0} (b : Bool) (f : Fault) (r : Result A Fault) (x : A) → cond b r (Err f) ≡ Ok x → (b ≡ true) × (r ≡ Ok x)
+tested : {A : Type 0} (b : Bool) (f : Fault) (r : Result A Fault) (x : A) → cond b r (Err f) ≡ Ok x
+    → (b ≡ true) × (r ≡ Ok x)
 tested true f r x e = (refl, e)
 tested false f r x e = ok_no_err x f e
 
-refused : {A : Type 0} (b : Bool) (f : Fault) (r : Result A Fault) (x : A) → cond b (Err f) r ≡ Ok x → (b ≡ false) × (r ≡ Ok x)
+refused : {A : Type 0} (b : Bool) (f : Fault) (r : Result A Fault) (x : A) → cond b (Err f) r ≡ Ok x
+    → (b ≡ false) × (r ≡ Ok x)
 refused true f r x e = ok_no_err x f e
 refused false f r x e = (refl, e)
 
@@ -219,7 +224,8 @@ within_bounds most text left n e =
     let k : number_of text ≡ n = ok_is {F = Fault} (number_of text) n c.1 in
     grind (arith, b.0, k)
 
-below_long : (left n : ℕ) (b : Bool) (z : ℤ) → n == 0 ≡ b → n ≤ 2 ^ 127 → ◌≡◌ {A = Result ℤ Fault} (cond b (Err (Syntax left)) (Ok (neg_ℤ (pos n)))) (Ok z) → IsLong z
+below_long : (left n : ℕ) (b : Bool) (z : ℤ) → n == 0 ≡ b → n ≤ 2 ^ 127
+    → ◌≡◌ {A = Result ℤ Fault} (cond b (Err (Syntax left)) (Ok (neg_ℤ (pos n)))) (Ok z) → IsLong z
 below_long left zero true z h le e = ok_no_err z (Syntax left) e
 below_long left (suc n) true z h le e = ok_no_err z (Syntax left) e
 below_long left zero false z h le e = subst IsLong (ok_is {F = Fault} (neg_ℤ (pos 0)) z e) (omega arith)
@@ -230,10 +236,12 @@ pub whole_bounds : (text : List ℕ) (left : ℕ) (z : ℤ) → whole_within tex
 unfolding whole_within
 whole_bounds text left z e = by_test (is_below text) (λ t. below (number_within (2 ^ 127) (after_minus text) left) refl (rw t at e)) (λ t. above (number_within (2 ^ 127 - 1) text left) refl (rw t at e))
   where
-    below : (r : Result ℕ Fault) → number_within (2 ^ 127) (after_minus text) left ≡ r → and_then r (negative left) ≡ Ok z → IsLong z
+    below : (r : Result ℕ Fault) → number_within (2 ^ 127) (after_minus text) left ≡ r
+        → and_then r (negative left) ≡ Ok z → IsLong z
     below (Ok n) k e = below_long left n (n == 0) z refl (within_bounds (2 ^ 127) (after_minus text) left n k) e
     below (Err f) k e = ok_no_err z f e
 
-    above : (r : Result ℕ Fault) → number_within (2 ^ 127 - 1) text left ≡ r → ◌≡◌ {A = Result ℤ Fault} (and_then r (λ n. Ok (pos n))) (Ok z) → IsLong z
+    above : (r : Result ℕ Fault) → number_within (2 ^ 127 - 1) text left ≡ r
+        → ◌≡◌ {A = Result ℤ Fault} (and_then r (λ n. Ok (pos n))) (Ok z) → IsLong z
     above (Ok n) k e = subst IsLong (ok_is {F = Fault} (pos n) z e) (omega (arith, within_bounds (2 ^ 127 - 1) text left n k))
     above (Err f) k e = ok_no_err z f e

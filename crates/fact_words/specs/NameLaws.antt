@@ -84,13 +84,15 @@ block_passes b lt = let w = decimal_is b lt in let le : leb b (2 ^ 32 - 1) ≡ t
 
 -- ---- names as they are made have fitting parts
 
-assoc_call : (text xs name ys : List ℕ) → (text ++ (46 ∷ (xs ++ quoted name))) ++ ys ≡ text ++ ((46 ∷ xs) ++ 34 ∷ (name ++ 34 ∷ ys))
+assoc_call : (text xs name ys : List ℕ)
+    → (text ++ (46 ∷ (xs ++ quoted name))) ++ ys ≡ text ++ ((46 ∷ xs) ++ 34 ∷ (name ++ 34 ∷ ys))
 assoc_call text xs name ys = simp append_assoc
 
 assoc_name : (name ys : List ℕ) → (name ++ 34 ∷ []) ++ ys ≡ name ++ 34 ∷ ys
 assoc_name name ys = append_assoc name (34 ∷ []) ys
 
-path_fits : (text : List ℕ) → IsPathName text → (ys : List ℕ) → begins_quoted (parts_of (text ++ ys)) ≡ fits_parts false (parts_of ys)
+path_fits : (text : List ℕ) → IsPathName text → (ys : List ℕ)
+    → begins_quoted (parts_of (text ++ ys)) ≡ fits_parts false (parts_of ys)
 path_fits _ (of_root name w) ys = rw (assoc_name name ys, parts_before name ys (name_unquoted name w.bytes), name_passes name w) refl
 path_fits _ (of_call text name b h lt w) ys =
     let rest = name ++ 34 ∷ ys in
@@ -140,7 +142,8 @@ abbrev joined : List (List ℕ) → List ℕ
 joined [] = []
 joined (p ∷ ps) = p ++ after_quotes ps
 
-joined_first : (b : ℕ) (ps : List (List ℕ)) (text : List ℕ) → is_over ps ≡ false → joined ps ≡ text → joined (with_first b ps) ≡ b ∷ text
+joined_first : (b : ℕ) (ps : List (List ℕ)) (text : List ℕ) → is_over ps ≡ false → joined ps ≡ text
+    → joined (with_first b ps) ≡ b ∷ text
 joined_first b [] text h e = absurd cc
 joined_first b (p ∷ ps) text h e = ap (λ (xs : List ℕ). b ∷ xs) e
 
@@ -189,14 +192,16 @@ end_makes acc (b ∷ bs) h e =
     (λ t. let k : bs ≡ codes "entry" = (bytes_eq-Decides bs (codes "entry")).0 t in rw (colon, k) (of_entry acc h))
     (λ t. let k = block_is bs (rw t at either) in rw (colon, ← k.is) (of_block acc k.block h k.small))
 
-call_makes : (acc part name : List ℕ) → IsPathName acc → is_call part ≡ true → is_name name ≡ true → IsPathName (acc ++ (part ++ quoted name))
+call_makes : (acc part name : List ℕ) → IsPathName acc → is_call part ≡ true → is_name name ≡ true
+    → IsPathName (acc ++ (part ++ quoted name))
 call_makes acc [] name h e n = absurd cc
 call_makes acc (b ∷ bs) name h e n =
     let dot : b ≡ 46 = eqb-true b 46 (and_left (b == 46) _ e) in
     let k = block_is bs (and_right (b == 46) (is_block bs) e) in
     rw (dot, ← k.is) (of_call acc name k.block h k.small (name_is name n))
 
-parts_make : (acc : List ℕ) → IsPathName acc → (ps : List (List ℕ)) → fits_parts false ps ≡ true → IsNodeName (acc ++ joined ps)
+parts_make : (acc : List ℕ) → IsPathName acc → (ps : List (List ℕ)) → fits_parts false ps ≡ true
+    → IsNodeName (acc ++ joined ps)
 parts_make acc h [] e = absurd cc
 parts_make acc h (p ∷ []) e = rw (append-nil p) (end_makes acc p h e)
 parts_make acc h (p ∷ q ∷ ps) e =

@@ -3,7 +3,9 @@
 ghost use Rattle.std.specs.Prelude.{◌≡◌, ◌∷◌, [], OnOk};
 ghost use Rattle.flow_facts.specs.Reports.{node_of};
 ghost use Rattle.fact_words.specs.Printing.{all_put};
-ghost use Rattle.fact_words.specs.Canonical.{begins, a_number, parent_mark, scope_word, fault_word, bound_word, node_marks, scope_marks, fact_marks, event_marks, multiplier_marks, count_bound_marks, path_bound_marks, scale_marks};
+ghost use Rattle.fact_words.specs.Canonical.{begins, a_number, parent_mark, scope_word, fault_word, bound_word};
+ghost use Rattle.fact_words.specs.Canonical.{node_marks, scope_marks, fact_marks, event_marks, multiplier_marks};
+ghost use Rattle.fact_words.specs.Canonical.{count_bound_marks, path_bound_marks, scale_marks};
 
 use crate::spaced_words::{put_line, put_number, put_whole, put_word};
 use domain_core::{Event, ScopeKind, ScopeRow};
@@ -74,7 +76,8 @@ fn fault_word(kind: RunKind) -> &'static [u8]
 
 // A line of three counts.
 fn put_three(out: &mut Vec<u8>, word: &[u8], a: u32, b: u32, c: u32) -> Result<(), AllocError>
-    ensures { OnOk result (out.new.items ≡ all_put out.old.items (begins word.now ∷ a_number a ∷ a_number b ∷ a_number c ∷ [])) }
+    ensures { OnOk result
+        (out.new.items ≡ all_put out.old.items (begins word.now ∷ a_number a ∷ a_number b ∷ a_number c ∷ [])) }
 {
     put_line(out, word)?;
     put_count(out, a)?;

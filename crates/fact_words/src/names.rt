@@ -2,7 +2,8 @@
 
 ghost use Rattle.std.specs.Prelude.{◌≡◌, ◌≤◌, ◌<◌, ◌==◌, not, true, IfSome, length, if◌then◌else◌};
 ghost use Rattle.std.specs.List.{prefix_len, list_all};
-ghost use Rattle.fact_words.specs.Names.{is_name_byte, is_name, is_block, is_call, is_end, fits_parts, parts_of, further, parts_after, is_node_name};
+ghost use Rattle.fact_words.specs.Names.{is_name_byte, is_name, is_block, is_call, is_end, fits_parts, parts_of};
+ghost use Rattle.fact_words.specs.Names.{further, parts_after, is_node_name};
 
 use crate::numbers::{has_zeros, is_numeral};
 use flow_base::digits;

@@ -5,7 +5,9 @@ ghost use Rattle.std.specs.List.{flat_map};
 ghost use Rattle.std.specs.Option.{option_map};
 ghost use Rattle.flow_facts.specs.Reports.{node_of, certificate_of, reported};
 ghost use Rattle.fact_words.specs.Printing.{all_put};
-ghost use Rattle.fact_words.specs.Canonical.{nodes_marks, scopes_marks, fact_marks, event_marks, multiplier_marks, if_any, path_bound_marks, cert_marks, ending_marks, lists_marks, tail_marks, report_text};
+ghost use Rattle.fact_words.specs.Canonical.{nodes_marks, scopes_marks, fact_marks, event_marks, multiplier_marks};
+ghost use Rattle.fact_words.specs.Canonical.{if_any, path_bound_marks, cert_marks, ending_marks, lists_marks};
+ghost use Rattle.fact_words.specs.Canonical.{tail_marks, report_text};
 
 use crate::lines::{
     put_count_bound, put_event, put_fact, put_multiplier, put_node, put_path_bound, put_scale,
@@ -88,7 +90,8 @@ fn put_certificate(out: &mut Vec<u8>, cert: &Cert) -> Result<(), AllocError>
 }
 
 fn put_cert(out: &mut Vec<u8>, cert: &Option<Cert>) -> Result<(), AllocError>
-    ensures { OnOk result (out.new.items ≡ all_put out.old.items (if_any cert_marks (option_map certificate_of cert.now))) }
+    ensures { OnOk result
+        (out.new.items ≡ all_put out.old.items (if_any cert_marks (option_map certificate_of cert.now))) }
 {
     match cert {
         Some(cert) => put_certificate(out, cert),

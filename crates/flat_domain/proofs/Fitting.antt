@@ -10,10 +10,12 @@ use Rattle.flat_domain.specs.FlatLaws.{both}
 use Rattle.flat_domain.specs.OperatorSizeLaws.{few_operands}
 use Rattle.flat_domain.specs.Fits.{sizes_fit}
 
-pub few : {D : Type 0} (bits_of : D → ℕ) (op : Op) (sizes : List ℕ) (args : List D) → AllZip (λ s d. bits_of d ≡ s) (operand_sizes op sizes) args → length args ≤ 3
+pub few : {D : Type 0} (bits_of : D → ℕ) (op : Op) (sizes : List ℕ) (args : List D)
+    → AllZip (λ s d. bits_of d ≡ s) (operand_sizes op sizes) args → length args ≤ 3
 few bits_of op sizes args sized = omega (arith, few_operands op sizes, AllZip-long (λ s d. bits_of d ≡ s) (operand_sizes op sizes) args sized)
 
-pub sizes_are_tested : {D : Type 0} (bits_of : D → ℕ) (sizes : List ℕ) (args : List D) → (sizes_fit bits_of sizes args ≡ true) ↔ AllZip (λ s d. bits_of d ≡ s) sizes args
+pub sizes_are_tested : {D : Type 0} (bits_of : D → ℕ) (sizes : List ℕ) (args : List D)
+    → (sizes_fit bits_of sizes args ≡ true) ↔ AllZip (λ s d. bits_of d ≡ s) sizes args
 sizes_are_tested bits_of [] [] = (λ e. tt, λ h. refl)
 sizes_are_tested bits_of [] (d ∷ args) = (λ e. absurd (false≢true e), λ h. absurd h)
 sizes_are_tested bits_of (size ∷ sizes) [] = (λ e. absurd (false≢true e), λ h. absurd h)

@@ -12,10 +12,12 @@ use Rattle.flat_domain.specs.FlatLaws.{both}
 use Rattle.flat_domain.proofs.FlatLemmas.{one_fits}
 use Rattle.flat_domain.specs.OperatorSizeLaws.{few_operands}
 
-pub few : (op : Op) (sizes : List ℕ) (args : List FlatSet) → HaveSizes flat_sets (operand_sizes op sizes) args → length args ≤ 3
+pub few : (op : Op) (sizes : List ℕ) (args : List FlatSet) → HaveSizes flat_sets (operand_sizes op sizes) args
+    → length args ≤ 3
 few op sizes args sized = omega (arith, few_operands op sizes, AllZip-long (λ s d. d.size ≡ s) (operand_sizes op sizes) args sized)
 
-pub sizes_are_tested : (sizes : List ℕ) (args : List FlatSet) → (sizes_fit sizes args ≡ true) ↔ HaveSizes flat_sets sizes args
+pub sizes_are_tested : (sizes : List ℕ) (args : List FlatSet)
+    → (sizes_fit sizes args ≡ true) ↔ HaveSizes flat_sets sizes args
 sizes_are_tested [] [] = (λ e. tt, λ h. refl)
 sizes_are_tested [] (d ∷ args) = (λ e. absurd (false≢true e), λ h. absurd h)
 sizes_are_tested (size ∷ sizes) [] = (λ e. absurd (false≢true e), λ h. absurd h)
@@ -24,7 +26,8 @@ sizes_are_tested (size ∷ sizes) (d ∷ args) = (
   λ h. rw (eq-eqb d.size size h.0, (sizes_are_tested sizes args).1 h.1) refl,
 )
 
-pub taken : (args : List FlatSet) (a b c : ℕ) → length args ≤ 3 → length args ≡ length (take (length args) (a ∷ b ∷ c ∷ []))
+pub taken : (args : List FlatSet) (a b c : ℕ) → length args ≤ 3
+    → length args ≡ length (take (length args) (a ∷ b ∷ c ∷ []))
 taken [] a b c small = refl
 taken (d ∷ []) a b c small = refl
 taken (d ∷ i ∷ []) a b c small = refl
@@ -35,7 +38,8 @@ fits_at : (size word : ℕ) (d : FlatSet) → d.size ≡ size → IsFlat d → d
 fits_at size word d same flat e = rw (← same) (one_fits d word e flat)
 
 -- each operand's word fits its size
-pub words_fit : (sizes : List ℕ) (args : List FlatSet) (a b c : ℕ) → length args ≤ 3 → HaveSizes flat_sets sizes args → IfSome (slice_get args 0) IsFlat → IfSome (slice_get args 1) IsFlat → IfSome (slice_get args 2) IsFlat
+pub words_fit : (sizes : List ℕ) (args : List FlatSet) (a b c : ℕ) → length args ≤ 3 → HaveSizes flat_sets sizes args
+    → IfSome (slice_get args 0) IsFlat → IfSome (slice_get args 1) IsFlat → IfSome (slice_get args 2) IsFlat
     → word_at args 0 ≡ Some a → word_at args 1 ≡ Some b → word_at args 2 ≡ Some c → EachFits sizes (take (length args) (a ∷ b ∷ c ∷ []))
 words_fit [] [] a b c small sized p q r e f g = tt
 words_fit (s ∷ sizes) [] a b c small sized p q r e f g = absurd sized

@@ -8,7 +8,8 @@ use Rattle.alf_ops.specs.Layouts.{is_size, is_written_so}
 use Rattle.alf_ops.specs.Table.{result_size, layout_of}
 use Rattle.flat_domain.specs.FlatLaws.{both}
 
-pub places_written : (sizes : List ℕ) → IsSome (result_size Select sizes) → (slice_index sizes 1 ≤ slice_index sizes 2) × (slice_index sizes 2 < slice_index sizes 0)
+pub places_written : (sizes : List ℕ) → IsSome (result_size Select sizes)
+    → (slice_index sizes 1 ≤ slice_index sizes 2) × (slice_index sizes 2 < slice_index sizes 0)
 places_written sizes some = by_test (is_written_so (layout_of Select) sizes)
     (λ e. let typed = (both (length sizes == 3) ((is_size (slice_index sizes 0) && nat_le (slice_index sizes 1) (slice_index sizes 2)) && nat_lt (slice_index sizes 2) (slice_index sizes 0)) e).1 in
     let h = both (is_size (slice_index sizes 0) && nat_le (slice_index sizes 1) (slice_index sizes 2)) (nat_lt (slice_index sizes 2) (slice_index sizes 0)) typed in (

@@ -38,7 +38,8 @@ flat_is_order = record {
 
 -- A set that has one word alone is that word: of no size there is one word alone.
 
-one_alone : (w : Option ℕ) (size x : ℕ) → 1 ≤ size → ((y : ℕ) → IsWord w y → y < 2 ^ size → y ≡ x) → IsWord w x → w ≡ Some x
+one_alone : (w : Option ℕ) (size x : ℕ) → 1 ≤ size → ((y : ℕ) → IsWord w y → y < 2 ^ size → y ≡ x) → IsWord w x
+    → w ≡ Some x
 one_alone None size x least only h =
     let two : 2 ^ 0 < 2 ^ size = pow_below 0 size (omega arith) in
     absurd (omega (arith, only 0 tt (omega (arith, two)), only 1 tt (omega (arith, two))))
@@ -83,7 +84,8 @@ tested d x = (
 
 -- Operands by their places.
 
-at_place : (args : List FlatSet) (xs : List ℕ) (i w : ℕ) → HaveWords flat_sets args xs → word_at args i ≡ Some w → slice_index xs i ≡ w
+at_place : (args : List FlatSet) (xs : List ℕ) (i w : ℕ) → HaveWords flat_sets args xs → word_at args i ≡ Some w
+    → slice_index xs i ≡ w
 at_place [] [] i w h e = cc
 at_place [] (x ∷ xs) i w h e = absurd h
 at_place (d ∷ args) [] i w h e = absurd h
@@ -94,7 +96,8 @@ at_place (d ∷ args) (x ∷ xs) (suc i) w h e = at_place args xs i w h.1 e
 rest_kept : (d : FlatSet) (args : List FlatSet) → AreKept flat_sets (d ∷ args) → AreKept flat_sets args
 rest_kept d args of_args e c = of_args e (further_member d args e c)
 
-one_at_place : (args : List FlatSet) (xs : List ℕ) (i : ℕ) → AreKept flat_sets args → HaveOneWord flat_sets args xs → word_at args i ≡ Some (slice_index xs i)
+one_at_place : (args : List FlatSet) (xs : List ℕ) (i : ℕ) → AreKept flat_sets args → HaveOneWord flat_sets args xs
+    → word_at args i ≡ Some (slice_index xs i)
 one_at_place [] [] i of_args h = refl
 one_at_place [] (x ∷ xs) i of_args h = absurd h
 one_at_place (d ∷ args) [] i of_args h = absurd h
@@ -125,15 +128,18 @@ zero_divides : (w : Option ℕ) (x : ℕ) → ((v : ℕ) → w ≡ Some v → x 
 zero_divides None x h e = refl
 zero_divides (Some v) x h e = eq-eqb v 0 (sym (h v refl) ∙ e)
 
-pub given_size : (op : Op) (sizes : List ℕ) (args : List FlatSet) → IsSome (result_size op sizes) → IsOfSize flat_sets (size_of_result op sizes) (given op sizes args)
+pub given_size : (op : Op) (sizes : List ℕ) (args : List FlatSet) → IsSome (result_size op sizes)
+    → IsOfSize flat_sets (size_of_result op sizes) (given op sizes args)
 given_size op sizes args typed = record { kept = record { size = result_is_size op sizes typed; fits = known_fits op sizes (word_at args 0) (word_at args 1) (word_at args 2) }; size = refl }
 
-value_size : (op : Op) (sizes : List ℕ) (args : List FlatSet) → IsSome (result_size op sizes) → GivesSize flat_sets (applied op sizes args).value (size_of_result op sizes)
+value_size : (op : Op) (sizes : List ℕ) (args : List FlatSet) → IsSome (result_size op sizes)
+    → GivesSize flat_sets (applied op sizes args).value (size_of_result op sizes)
 value_size op sizes args typed d is = by_test (must_divide op args)
     (λ e. absurd (none-some d (rw e at is)))
     (λ e. let same : given op sizes args ≡ d = same_Some _ d (rw e at is) in subst (IsOfSize flat_sets (size_of_result op sizes)) same (given_size op sizes args typed))
 
-value_words : (op : Op) (sizes : List ℕ) (args : List FlatSet) (xs : List ℕ) → HaveWords flat_sets args xs → (DividesByZero op xs → ⊥) → Gives flat_sets (applied op sizes args).value (value op sizes xs)
+value_words : (op : Op) (sizes : List ℕ) (args : List FlatSet) (xs : List ℕ) → HaveWords flat_sets args xs
+    → (DividesByZero op xs → ⊥) → Gives flat_sets (applied op sizes args).value (value op sizes xs)
 value_words op sizes args xs words divides_not = by_test (must_divide op args)
     (λ e. let h = both (divides op) (is_zero (word_at args 1)) e in absurd (divides_not (h.0, at_place args xs 1 0 words (zero_known (word_at args 1) h.1))))
     (λ e. rw e (
@@ -142,11 +148,13 @@ value_words op sizes args xs words divides_not = by_test (must_divide op args)
       (known_has op sizes xs (word_at args 0) (word_at args 1) (word_at args 2) (λ w. at_place args xs 0 w words) (λ w. at_place args xs 1 w words) (λ w. at_place args xs 2 w words), word_below (size_of_result op sizes) _),
     ))
 
-told : (op : Op) (sizes : List ℕ) (args : List FlatSet) (xs : List ℕ) → HaveWords flat_sets args xs → DividesByZero op xs → (applied op sizes args).divide ≡ true
+told : (op : Op) (sizes : List ℕ) (args : List FlatSet) (xs : List ℕ) → HaveWords flat_sets args xs
+    → DividesByZero op xs → (applied op sizes args).divide ≡ true
 told op sizes args xs words zero_divisor = rw (zero_divisor.0, zero_divides (word_at args 1) (slice_index xs 1) (λ w. at_place args xs 1 w words) zero_divisor.1) refl
 
 -- where each operand is one word
-one_given : (op : Op) (sizes : List ℕ) (args : List FlatSet) (xs : List ℕ) → AreKept flat_sets args → HaveOneWord flat_sets args xs → (DividesByZero op xs → ⊥)
+one_given : (op : Op) (sizes : List ℕ) (args : List FlatSet) (xs : List ℕ) → AreKept flat_sets args
+    → HaveOneWord flat_sets args xs → (DividesByZero op xs → ⊥)
     → GivesOnly flat_sets (applied op sizes args).value (value op sizes xs) × ((applied op sizes args).divide ≡ false)
 one_given op sizes args xs of_args words divides_not =
     let a = one_at_place args xs 0 of_args words in
@@ -157,13 +165,15 @@ one_given op sizes args xs of_args words divides_not =
     (λ f. f) in
     rw (a, b, c, e) ((one (size_of_result op sizes) (value op sizes xs), refl, only_one (one (size_of_result op sizes) (value op sizes xs)) (value op sizes xs) refl (word_below (size_of_result op sizes) _)), refl)
 
-one_divides : (op : Op) (sizes : List ℕ) (args : List FlatSet) (xs : List ℕ) → AreKept flat_sets args → HaveOneWord flat_sets args xs → DividesByZero op xs
+one_divides : (op : Op) (sizes : List ℕ) (args : List FlatSet) (xs : List ℕ) → AreKept flat_sets args
+    → HaveOneWord flat_sets args xs → DividesByZero op xs
     → ((applied op sizes args).value ≡ None) × ((applied op sizes args).divide ≡ true)
 one_divides op sizes args xs of_args words zero_divisor =
     let b = one_at_place args xs 1 of_args words in
     rw (b, zero_divisor.0, zero_divisor.1) (refl, refl)
 
-pub is_applied : (op : Op) (sizes : List ℕ) (args : List FlatSet) → IsSome (result_size op sizes) → AreKept flat_sets args → IsApplied flat_sets op sizes args (applied op sizes args)
+pub is_applied : (op : Op) (sizes : List ℕ) (args : List FlatSet) → IsSome (result_size op sizes)
+    → AreKept flat_sets args → IsApplied flat_sets op sizes args (applied op sizes args)
 is_applied op sizes args typed of_args = record {
   size = value_size op sizes args typed;
   covering = value_words op sizes args;
@@ -174,12 +184,14 @@ is_applied op sizes args typed of_args = record {
 
 -- Relations.
 
-related : (rel : Rel) (size x y : ℕ) (a b : Option ℕ) → IsWord a x → IsWord b y → Related rel size x y → may_relate rel size a b ≡ true
+related : (rel : Rel) (size x y : ℕ) (a b : Option ℕ) → IsWord a x → IsWord b y → Related rel size x y
+    → may_relate rel size a b ≡ true
 related rel size x y None b h k r = refl
 related rel size x y (Some v) None h k r = refl
 related rel size x y (Some v) (Some w) h k r = rw (← h, ← k) (eq-eqb _ 1 r)
 
-unrelated : (rel : Rel) (size x y : ℕ) (a b : Option ℕ) → a ≡ Some x → b ≡ Some y → (Related rel size x y → ⊥) → may_relate rel size a b ≡ false
+unrelated : (rel : Rel) (size x y : ℕ) (a b : Option ℕ) → a ≡ Some x → b ≡ Some y → (Related rel size x y → ⊥)
+    → may_relate rel size a b ≡ false
 unrelated rel size x y a b e f r = rw (e, f) (by_test (value (operator_of rel) (size ∷ []) (x ∷ y ∷ []) == 1) (λ t. absurd (r (eqb-true _ 1 t))) (λ t. t))
 
 is_assumed : (rel : Rel) (a b : FlatSet) → IsFlat a → IsFlat b → IsAssumed flat_sets rel a b (assumed rel a b)

@@ -28,7 +28,8 @@ tested : (s : ℕ) → is_size s ≡ true → IsWordSize s
 tested s e = let h = both (nat_le 1 s) (nat_le s 64) e in record { least = leb-true 1 s h.0; most = leb-true s 64 h.1 }
 
 -- the sizes of a row
-typed_is_size : (layout : Layout) (m n h : ℕ) → is_typed layout m n h ≡ true → IsWordSize (result_by_layout layout m n h)
+typed_is_size : (layout : Layout) (m n h : ℕ) → is_typed layout m n h ≡ true
+    → IsWordSize (result_by_layout layout m n h)
 typed_is_size Unary m n h e = tested m e
 typed_is_size Sum m n h e = tested m e
 typed_is_size Carry m n h e = record { least = omega arith; most = omega arith }

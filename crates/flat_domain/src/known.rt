@@ -5,7 +5,9 @@ ghost use Rattle.alf_ops.specs.Table.{result_size, size_of_result, operand_sizes
 ghost use Rattle.alf_ops.specs.Words.{divides as divides_of};
 ghost use Rattle.domain_core.specs.WordSets.{HaveSizes};
 ghost use Rattle.domain_core.specs.Relations.{operator_of};
-ghost use Rattle.flat_domain.specs.Flats.{flat_sets, sizes_fit, IsFlat, word_at as word_at_of, known_word as known_word_of, given as given_of, may_divide as may_divide_of, must_divide as must_divide_of, may_relate as may_relate_of};
+ghost use Rattle.flat_domain.specs.Flats.{flat_sets, sizes_fit, IsFlat, word_at as word_at_of};
+ghost use Rattle.flat_domain.specs.Flats.{known_word as known_word_of, given as given_of, may_divide as may_divide_of};
+ghost use Rattle.flat_domain.specs.Flats.{must_divide as must_divide_of, may_relate as may_relate_of};
 
 use crate::set::Flat;
 use alf_ops::{Op, apply, operand, shape};

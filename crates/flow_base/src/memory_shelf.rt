@@ -1,6 +1,7 @@
 //! Files in memory, with reads that fail as they are told to.
 
-ghost use Rattle.std.specs.Prelude.{◌≡◌, ◌≤◌, ◌==◌, [], map, Some, None, IsNone, IfSome, IsErrOf, IsTrue, string_bytes, option_map};
+ghost use Rattle.std.specs.Prelude.{◌≡◌, ◌≤◌, ◌==◌, [], map, Some, None, IsNone, IfSome, IsErrOf, IsTrue, string_bytes};
+ghost use Rattle.std.specs.Prelude.{option_map};
 ghost use Rattle.std.specs.List.{list_any};
 ghost use Rattle.flow_base.specs.Outside.{next_count};
 ghost use Rattle.flow_base.specs.Shelves.{IsRead};
@@ -46,7 +47,15 @@ impl MemoryShelf {
     /// These files, by name; of equal names the first counts. `failing` lists the numbers of the
     /// reads that fail, from 0. Takes no memory.
     pub fn new(files: Vec<(String, Vec<u8>)>, failing: Vec<u64>) -> Self
-        ensures { result ≡ record { files = pairs_of files.items; failing = failing.items; reads = 0; names = []; faults = 0; failed = None } }
+        ensures { result
+            ≡ record {
+              files = pairs_of files.items;
+              failing = failing.items;
+              reads = 0;
+              names = [];
+              faults = 0;
+              failed = None;
+            } }
     {
         let names = Vec::new(*files.allocator());
         MemoryShelf {
@@ -63,7 +72,8 @@ impl MemoryShelf {
     fn fail(&mut self, name: String) -> ReadError
         ensures error { result ≡ ReadError.Failed }
         ensures later { self.old.faults ≤ self.new.faults }
-        ensures state { self.new ≡ record self.old { faults = next_count self.old.faults; failed = Some (string_bytes name) } }
+        ensures state { self.new
+            ≡ record self.old { faults = next_count self.old.faults; failed = Some (string_bytes name) } }
     {
         self.faults = self.faults.saturating_add(1);
         self.failed = Some(name);

@@ -60,8 +60,10 @@ impl Sink for MemorySink {
 
     fn write_all(&mut self, bytes: &[u8]) -> Result<(), WriteError>
         // A write fails exactly where it is listed, and then took exactly that prefix.
-        ensures listed { IfSome (prefix_before_fault self.old.failing self.old.writes) (λ count. TakesPrefix result self.old.taken self.new.taken bytes.now count) }
-        ensures only_listed { IsErrOf result WriteError.Failed → IsNone (prefix_before_fault self.old.failing self.old.writes) → ⊥ }
+        ensures listed { IfSome (prefix_before_fault self.old.failing self.old.writes)
+            (λ count. TakesPrefix result self.old.taken self.new.taken bytes.now count) }
+        ensures only_listed { IsErrOf result WriteError.Failed
+            → IsNone (prefix_before_fault self.old.failing self.old.writes) → ⊥ }
         // A fault is counted exactly where a write failed.
         ensures fault { IsErrOf result WriteError.Failed → self.new.faults ≡ next_count self.old.faults }
         ensures no_fault { (IsErrOf result WriteError.Failed → ⊥) → self.new.faults ≡ self.old.faults }

@@ -31,7 +31,8 @@ places_more n m nodes = sum_by-cons (λ k. cond (n == k) 1 0) m nodes ∙ by (n 
     by false = omega arith
 
 -- a stretch before others passes where it is none, or passes
-all_with_closed : (test : List ℕ → Bool) (part : List ℕ) (others : List (List ℕ)) → list_all test (with_closed part others) ≡ (not (is_some_part part) || test part) && list_all test others
+all_with_closed : (test : List ℕ → Bool) (part : List ℕ) (others : List (List ℕ))
+    → list_all test (with_closed part others) ≡ (not (is_some_part part) || test part) && list_all test others
 all_with_closed test [] others = refl
 all_with_closed test (n ∷ part) others = refl
 
@@ -69,16 +70,19 @@ seen_at a b m part others true true =
     rw (one_test (a == m), one_test (b == m)) (ap (made (a == m) (b == m)) (apart_with_closed a b part others))
 seen_at a b m part others true false = rw (some_further m part, has_further a m part, has_further b m part) refl
 
-pub seen_step : (o : Shape) (s a b m : ℕ) (past : List ℕ) → seen_of o s a b (m ∷ past) ≡ seen_after (is_held o s m) (is_header o s m) (a == m) (b == m) (seen_of o s a b past)
+pub seen_step : (o : Shape) (s a b m : ℕ) (past : List ℕ)
+    → seen_of o s a b (m ∷ past) ≡ seen_after (is_held o s m) (is_header o s m) (a == m) (b == m) (seen_of o s a b past)
 seen_step o s a b m past = seen_at a b m (open_iteration o s past) (closed_iterations o s past) (is_held o s m) (is_header o s m)
 
 -- ---- all of the run
 
 -- what passes of all members, and of each
-each_passes : {A : Type 0} (test : A → Bool) (xs : List A) → list_all test xs ≡ true → (x : A) → Contains xs x → test x ≡ true
+each_passes : {A : Type 0} (test : A → Bool) (xs : List A) → list_all test xs ≡ true → (x : A) → Contains xs x
+    → test x ≡ true
 each_passes test xs all x there = subst (λ y. test y ≡ true) there.2 (AllPass-from_list_all test xs all there.0 x there.1)
 
-all_pass : {A : Type 0} (test : A → Bool) (xs : List A) → ((x : A) → Contains xs x → test x ≡ true) → list_all test xs ≡ true
+all_pass : {A : Type 0} (test : A → Bool) (xs : List A) → ((x : A) → Contains xs x → test x ≡ true)
+    → list_all test xs ≡ true
 all_pass test xs each = list_all-from_AllPass test xs (all_members (λ x. test x ≡ true) xs each)
 
 -- a list and its reverse have a node as often
@@ -98,7 +102,8 @@ places_turned n (m ∷ nodes) =
 
 module _ (o : Shape) (ok : IsOutline o) (s : ℕ) (trace : List ℕ) where
   -- an execution of the run is found, and one that is found is of the run
-  turned_in : (execution : List ℕ) → IsExecution o s trace execution → Contains (executions o s (reverse trace)) (reverse execution)
+  turned_in : (execution : List ℕ) → IsExecution o s trace execution
+      → Contains (executions o s (reverse trace)) (reverse execution)
   turned_in execution is =
       execution_found o ok s (reverse trace) (reverse execution)
       (subst (λ (xs : List ℕ). IsExecution o s xs (reverse (reverse execution))) (sym (reverse-reverse trace))
@@ -107,20 +112,24 @@ module _ (o : Shape) (ok : IsOutline o) (s : ℕ) (trace : List ℕ) where
   turned_out : (e : List ℕ) → Contains (executions o s (reverse trace)) e → IsExecution o s trace (reverse e)
   turned_out e there = subst (λ (xs : List ℕ). IsExecution o s xs (reverse e)) (reverse-reverse trace) (found_execution o ok s (reverse trace) e there)
 
-  pub all_executions : (n low high : ℕ) → IsTrue (tally_ends low high (tally_of o s n low high (reverse trace))) ↔ ((execution : List ℕ) → IsExecution o s trace execution → IsBetween low high (places n execution))
+  pub all_executions : (n low high : ℕ)
+      → IsTrue (tally_ends low high (tally_of o s n low high (reverse trace)))
+      ↔ ((execution : List ℕ) → IsExecution o s trace execution → IsBetween low high (places n execution))
   all_executions n low high = (forth, back)
     where
       whole : list_all (λ e. fits n low high e) (executions o s (reverse trace)) ≡ tally_ends low high (tally_of o s n low high (reverse trace))
       whole = all_with_closed (λ e. fits n low high e) (open_execution o s (reverse trace)) (closed_executions o s (reverse trace))
 
-      forth : IsTrue (tally_ends low high (tally_of o s n low high (reverse trace))) → (execution : List ℕ) → IsExecution o s trace execution → IsBetween low high (places n execution)
+      forth : IsTrue (tally_ends low high (tally_of o s n low high (reverse trace))) → (execution : List ℕ)
+          → IsExecution o s trace execution → IsBetween low high (places n execution)
       forth all execution is =
           let passes : fits n low high (reverse execution) ≡ true = each_passes (λ e. fits n low high e) (executions o s (reverse trace)) (whole ∙ all) (reverse execution) (turned_in execution is) in
           let both = and_parts (nat_le low (places n (reverse execution))) (nat_le (places n (reverse execution)) high) passes in
           let same = places_turned n execution in
           (subst (λ (k : ℕ). low ≤ k) same (leb-true low (places n (reverse execution)) both.0), subst (λ (k : ℕ). k ≤ high) same (leb-true (places n (reverse execution)) high both.1))
 
-      back : ((execution : List ℕ) → IsExecution o s trace execution → IsBetween low high (places n execution)) → IsTrue (tally_ends low high (tally_of o s n low high (reverse trace)))
+      back : ((execution : List ℕ) → IsExecution o s trace execution → IsBetween low high (places n execution))
+          → IsTrue (tally_ends low high (tally_of o s n low high (reverse trace)))
       back each = sym whole ∙ all_pass (λ e. fits n low high e) (executions o s (reverse trace)) passes
         where
           passes : (e : List ℕ) → Contains (executions o s (reverse trace)) e → fits n low high e ≡ true
@@ -129,26 +138,31 @@ module _ (o : Shape) (ok : IsOutline o) (s : ℕ) (trace : List ℕ) where
               let same = places_turned n e in
               and_from (nat_le low (places n e)) (nat_le (places n e) high) (le-leb low (places n e) (subst (λ (k : ℕ). low ≤ k) same between.0)) (le-leb (places n e) high (subst (λ (k : ℕ). k ≤ high) same between.1))
 
-  pub all_iterations : (a b : ℕ) → IsTrue (seen_ends (seen_of o s a b (reverse trace))) ↔ ((iteration : List ℕ) → IsIteration o s trace iteration → Contains iteration a → Contains iteration b → ⊥)
+  pub all_iterations : (a b : ℕ)
+      → IsTrue (seen_ends (seen_of o s a b (reverse trace)))
+      ↔ ((iteration : List ℕ) → IsIteration o s trace iteration → Contains iteration a → Contains iteration b → ⊥)
   all_iterations a b = (forth, back)
     where
       whole : list_all (λ i. are_apart a b i) (iterations o s (reverse trace)) ≡ seen_ends (seen_of o s a b (reverse trace))
       whole = apart_with_closed a b (open_iteration o s (reverse trace)) (closed_iterations o s (reverse trace))
 
-      found : (iteration : List ℕ) → IsIteration o s trace iteration → Contains (iterations o s (reverse trace)) (reverse iteration)
+      found : (iteration : List ℕ) → IsIteration o s trace iteration
+          → Contains (iterations o s (reverse trace)) (reverse iteration)
       found iteration is =
           iteration_found o ok s (reverse trace) (reverse iteration)
           (subst (λ (xs : List ℕ). IsIteration o s xs (reverse (reverse iteration))) (sym (reverse-reverse trace))
           (subst (λ (xs : List ℕ). IsIteration o s trace xs) (sym (reverse-reverse iteration)) is))
 
-      forth : IsTrue (seen_ends (seen_of o s a b (reverse trace))) → (iteration : List ℕ) → IsIteration o s trace iteration → Contains iteration a → Contains iteration b → ⊥
+      forth : IsTrue (seen_ends (seen_of o s a b (reverse trace))) → (iteration : List ℕ)
+          → IsIteration o s trace iteration → Contains iteration a → Contains iteration b → ⊥
       forth all iteration is in_a in_b =
           let passes : are_apart a b (reverse iteration) ≡ true = each_passes (λ i. are_apart a b i) (iterations o s (reverse trace)) (whole ∙ all) (reverse iteration) (found iteration is) in
           let both : has a (reverse iteration) && has b (reverse iteration) ≡ true =
           and_from (has a (reverse iteration)) (has b (reverse iteration)) (member_found (reverse iteration) a (in_reverse iteration a in_a)) (member_found (reverse iteration) b (in_reverse iteration b in_b)) in
           both_ways (has a (reverse iteration) && has b (reverse iteration)) (not-true (has a (reverse iteration) && has b (reverse iteration)) passes) both
 
-      back : ((iteration : List ℕ) → IsIteration o s trace iteration → Contains iteration a → Contains iteration b → ⊥) → IsTrue (seen_ends (seen_of o s a b (reverse trace)))
+      back : ((iteration : List ℕ) → IsIteration o s trace iteration → Contains iteration a → Contains iteration b → ⊥)
+          → IsTrue (seen_ends (seen_of o s a b (reverse trace)))
       back each = sym whole ∙ all_pass (λ i. are_apart a b i) (iterations o s (reverse trace)) passes
         where
           passes : (i : List ℕ) → Contains (iterations o s (reverse trace)) i → are_apart a b i ≡ true

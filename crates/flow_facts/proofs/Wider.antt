@@ -4,7 +4,8 @@ use Rattle.domain_core.specs.Outlines.{Shape}
 use Rattle.flow_facts.specs.declared.fact.Fact.{Fact}
 use Rattle.flow_facts.specs.Facts.{Meets, IsBetween, IsWider, wider_loop, wider_count, wider_total}
 
-more_between : (low high lower higher k : ℕ) → lower ≤ low → high ≤ higher → IsBetween low high k → IsBetween lower higher k
+more_between : (low high lower higher k : ℕ) → lower ≤ low → high ≤ higher → IsBetween low high k
+    → IsBetween lower higher k
 more_between low high lower higher k below above is = (omega arith, omega arith)
 
 pub wider_met : (f g : Fact) → IsWider f g → (o : Shape) (trace : List ℕ) → Meets o trace f → Meets o trace g

@@ -38,6 +38,9 @@ Meets o trace (Alarm n fault) = Unit {0}
 
 -- the second is the first with a least count that is not greater and a greatest that is not less
 pub data IsWider : Fact → Fact → Type 0 where
-  wider_loop : (s low high lower higher : ℕ) → lower ≤ low → high ≤ higher → IsWider (Loop s low high) (Loop s lower higher)
-  wider_count : (s n low high lower higher : ℕ) → lower ≤ low → high ≤ higher → IsWider (Count s n low high) (Count s n lower higher)
-  wider_total : (n low high lower higher : ℕ) → lower ≤ low → high ≤ higher → IsWider (Total n low high) (Total n lower higher)
+  wider_loop : (s low high lower higher : ℕ) → lower ≤ low → high ≤ higher
+      → IsWider (Loop s low high) (Loop s lower higher)
+  wider_count : (s n low high lower higher : ℕ) → lower ≤ low → high ≤ higher
+      → IsWider (Count s n low high) (Count s n lower higher)
+  wider_total : (n low high lower higher : ℕ) → lower ≤ low → high ≤ higher
+      → IsWider (Total n low high) (Total n lower higher)

@@ -50,7 +50,8 @@ quoted name = 34 ∷ (name ++ 34 ∷ [])
 -- the root's name, then for each call a dot, a block and the called function's name
 pub data IsPathName : List ℕ → Type 0 where
   of_root : (name : List ℕ) → IsName name → IsPathName (quoted name)
-  of_call : (text name : List ℕ) (b : ℕ) → IsPathName text → IsNumber b → IsName name → IsPathName (text ++ (46 ∷ (decimal b ++ quoted name)))
+  of_call : (text name : List ℕ) (b : ℕ) → IsPathName text → IsNumber b → IsName name
+      → IsPathName (text ++ (46 ∷ (decimal b ++ quoted name)))
 
 -- a path's name, a colon, and the word entry or a block
 pub data IsNodeName : List ℕ → Type 0 where

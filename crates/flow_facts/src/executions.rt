@@ -70,7 +70,9 @@ fn tally_along(outline: &Outline, scope: u32, node: u32, span: Span, trace: &[u3
 /// Whether each execution of the scope has the node as often as it should.
 pub fn executions_fit(outline: &Outline, scope: u32, node: u32, span: Span, trace: &[u32]) -> bool
     requires { All (λ n. n < length outline.now.nodes) trace.now }
-    ensures { IsTrue result ↔ ((execution : List ℕ) → IsExecution (shape_of outline.now) scope trace.now execution → IsBetween span.low span.high (places node execution)) }
+    ensures { IsTrue result
+        ↔ ((execution : List ℕ) → IsExecution (shape_of outline.now) scope trace.now execution
+        → IsBetween span.low span.high (places node execution)) }
 {
     outline.kept();
     tally_along(outline, scope, node, span, trace).ends(span)

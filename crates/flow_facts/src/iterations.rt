@@ -87,7 +87,9 @@ fn seen_along(outline: &Outline, scope: u32, a: u32, b: u32, trace: &[u32]) -> S
 pub fn are_apart(outline: &Outline, scope: u32, a: u32, b: u32, trace: &[u32]) -> bool
     requires scope { scope < length outline.now.scopes }
     requires nodes { All (λ n. n < length outline.now.nodes) trace.now }
-    ensures { IsTrue result ↔ ((iteration : List ℕ) → IsIteration (shape_of outline.now) scope trace.now iteration → Contains iteration a → Contains iteration b → ⊥) }
+    ensures { IsTrue result
+        ↔ ((iteration : List ℕ) → IsIteration (shape_of outline.now) scope trace.now iteration → Contains iteration a
+        → Contains iteration b → ⊥) }
 {
     outline.kept();
     seen_along(outline, scope, a, b, trace).ends()

@@ -1,7 +1,8 @@
 //! Lines of facts, worked out apart from the definitions.
 
 ghost use Rattle.std.specs.Prelude.{◌≡◌, [], ◌∷◌};
-ghost use Rattle.alf_ops.specs.declared.history.RunFault.TheVariants.{Divide, Uninit, Mixed, Bounds, Dead as DeadFrame, Kind, Pointers};
+ghost use Rattle.alf_ops.specs.declared.history.RunFault.TheVariants.{Divide, Uninit, Mixed, Bounds, Dead as DeadFrame};
+ghost use Rattle.alf_ops.specs.declared.history.RunFault.TheVariants.{Kind, Pointers};
 ghost use Rattle.flow_facts.specs.declared.fact.Fact.TheVariants.{Loop, Count, Dead, Total, Pair, Alarm};
 ghost use Rattle.flow_facts.specs.Writable.{IsBefore, fault_code};
 

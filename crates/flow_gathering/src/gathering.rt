@@ -63,8 +63,8 @@ fn collected<'a, S: Stepper>(
     })
 }
 
-/// What the pool, of so many nodes, has collected: its books, and for each node the faults told there and whether it was
-/// stepped.
+/// What the pool, of so many nodes, has collected: its books, and for each node the faults told there and whether it
+/// was stepped.
 ///
 /// Takes memory for two entries a node.
 pub fn gathered<'a, S: Stepper>(

@@ -28,7 +28,8 @@ module _ (places : List Place) (m : ℕ) (place : Place) (inside : m < length pl
 
   module _ (ascends : AllPairs IsBefore (nodes_of places)) (node : Node) where
     -- the nodes up to one that is before a node are before it
-    pub low_before : node_cmp (node_of place) node ≡ Less → (k : ℕ) → k < m + 1 → IsBefore (get_or (nodes_of places) k node) node
+    pub low_before : node_cmp (node_of place) node ≡ Less → (k : ℕ) → k < m + 1
+        → IsBefore (get_or (nodes_of places) k node) node
     low_before less k low = elim (cases_lt k m) [
       | inl under ↦ let long = nodes_long places in
           before_before (get_or (nodes_of places) k node) (node_of place) node
@@ -37,7 +38,8 @@ module _ (places : List Place) (m : ℕ) (place : Place) (inside : m < length pl
     ]
 
     -- the nodes from one on that is after a node are after it
-    pub high_after : node_cmp (node_of place) node ≡ Greater → (k : ℕ) → m ≤ k → k < length (nodes_of places) → IsBefore node (get_or (nodes_of places) k node)
+    pub high_after : node_cmp (node_of place) node ≡ Greater → (k : ℕ) → m ≤ k → k < length (nodes_of places)
+        → IsBefore node (get_or (nodes_of places) k node)
     high_after greater k high within = elim (cases_lt m k) [
       | inl over ↦
           before_before node (node_of place) (get_or (nodes_of places) k node) (after_is (node_of place) node greater)

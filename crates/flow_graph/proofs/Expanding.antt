@@ -27,10 +27,12 @@ use Rattle.flow_graph.proofs.PathFunctions.{functions_differ, is_short}
 -- ---- where nodes lead
 
 -- a block of the same path
-within_path : (from next : Node) (path : List ℕ) (b : ℕ) → from.path ≡ path → next ≡ block_node path b → IsLink from next
+within_path : (from next : Node) (path : List ℕ) (b : ℕ) → from.path ≡ path → next ≡ block_node path b
+    → IsLink from next
 within_path from next path b same is = subst (λ (n : Node). IsLink from n) (sym is) (inside same (λ none. absurd (cc)))
 
-back_link : (from next : Node) (b : ℕ) (path : List ℕ) (ending : Option BlockEnding) → from.path ≡ b ∷ path → BackLeads path ending (Some next) → IsLink from next
+back_link : (from next : Node) (b : ℕ) (path : List ℕ) (ending : Option BlockEnding) → from.path ≡ b ∷ path
+    → BackLeads path ending (Some next) → IsLink from next
 back_link from next b path None same h = absurd h
 back_link from next b path (Some (Fall after)) same h = absurd h
 back_link from next b path (Some (Jump to)) same h = absurd h
@@ -39,11 +41,13 @@ back_link from next b path (Some (Call f args result after)) same h =
     subst (λ (n : Node). IsLink from n) (sym (same_Some next (block_node path after) h)) (goes_back b same (λ none. absurd (cc)))
 back_link from next b path (Some (Return value)) same h = absurd h
 
-return_link : (program : NumberedProgram) (from next : Node) (path : List ℕ) → from.path ≡ path → ReturnLeads program path (Some next) → IsLink from next
+return_link : (program : NumberedProgram) (from next : Node) (path : List ℕ) → from.path ≡ path
+    → ReturnLeads program path (Some next) → IsLink from next
 return_link program from next [] same h = absurd (cc)
 return_link program from next (b ∷ path) same h = back_link from next b path (ending_at program (function_at program path) b) same h
 
-end_link : (program : NumberedProgram) (from next : Node) (path : List ℕ) (b : ℕ) (ending : Option BlockEnding) → from.path ≡ path → from.block ≡ Some b → EndLeads program path b ending (Some next) → IsLink from next
+end_link : (program : NumberedProgram) (from next : Node) (path : List ℕ) (b : ℕ) (ending : Option BlockEnding)
+    → from.path ≡ path → from.block ≡ Some b → EndLeads program path b ending (Some next) → IsLink from next
 end_link program from next path b None same block h = absurd h
 end_link program from next path b (Some (Fall after)) same block h = within_path from next path after same (same_Some next (block_node path after) h)
 end_link program from next path b (Some (Jump to)) same block h = within_path from next path to same (same_Some next (block_node path to) h)
@@ -52,7 +56,8 @@ end_link program from next path b (Some (Call f args result after)) same block h
     subst (λ (n : Node). IsLink from n) (sym (same_Some next (entry_node (b ∷ path)) h)) (calls b block (ap (λ (p : List ℕ). b ∷ p) (sym same)) refl)
 end_link program from next path b (Some (Return value)) same block h = return_link program from next path same h
 
-place_link : (program : NumberedProgram) (from next : Node) (block : Option ℕ) → from.block ≡ block → PlaceLeads program from.path block (Some next) → IsLink from next
+place_link : (program : NumberedProgram) (from next : Node) (block : Option ℕ) → from.block ≡ block
+    → PlaceLeads program from.path block (Some next) → IsLink from next
 place_link program from next None is h = within_path from next from.path 0 refl (same_Some next (block_node from.path 0) h)
 place_link program from next (Some b) is h = end_link program from next from.path b (ending_at program (function_at program from.path) b) refl is h
 
@@ -72,7 +77,8 @@ return_ends : (program : NumberedProgram) (path : List ℕ) → ReturnLeads prog
 return_ends program [] h = refl
 return_ends program (b ∷ path) h = absurd (back_ends path (ending_at program (function_at program path) b) h)
 
-end_ends : (program : NumberedProgram) (from : Node) (b : ℕ) (ending : Option BlockEnding) → ending_at program (function_at program from.path) b ≡ ending → from.block ≡ Some b
+end_ends : (program : NumberedProgram) (from : Node) (b : ℕ) (ending : Option BlockEnding)
+    → ending_at program (function_at program from.path) b ≡ ending → from.block ≡ Some b
     → EndLeads program from.path b ending None → IsLastReturn program from
 end_ends program from b None at block h = absurd h
 end_ends program from b (Some (Fall after)) at block h = absurd (cc)
@@ -83,7 +89,8 @@ end_ends program from b (Some (Return value)) at block h =
     let root : from.path ≡ [] = return_ends program from.path h in
     record { block = b; value = value; of_root = root; of_block = block; returns_it = sym (ap (λ (p : List ℕ). ending_at program (function_at program p) b) root) ∙ at }
 
-place_ends : (program : NumberedProgram) (from : Node) (block : Option ℕ) → from.block ≡ block → PlaceLeads program from.path block None → IsLastReturn program from
+place_ends : (program : NumberedProgram) (from : Node) (block : Option ℕ) → from.block ≡ block
+    → PlaceLeads program from.path block None → IsLastReturn program from
 place_ends program from None is h = absurd (cc)
 place_ends program from (Some b) is h = end_ends program from b (ending_at program (function_at program from.path) b) refl is h
 
@@ -114,7 +121,8 @@ module _ (program : NumberedProgram) (keeps : IsKept program) (graph : GraphPart
   kept_number n low = is.numbered.kept n first_node low
 
   -- no two numbers stand for one node
-  apart : (m n : ℕ) → m < length graph.nodes → n < length graph.nodes → node_number graph m ≡ node_number graph n → m ≡ n
+  apart : (m n : ℕ) → m < length graph.nodes → n < length graph.nodes → node_number graph m ≡ node_number graph n
+      → m ≡ n
   apart m n m_low n_low e = elim (cases_lt m n) [
     | inl before ↦ absurd (not_before_itself (node_number graph n) (subst (λ (x : Node). IsBefore x (node_number graph n)) e (is.numbered.ascends m n first_node before n_low)))
     | inr high ↦ elim (cases_lt n m) [
@@ -146,17 +154,20 @@ module _ (program : NumberedProgram) (keeps : IsKept program) (graph : GraphPart
   to_within (Some next) v h = let low = slice_get_within graph.nodes v next h in omega arith
 
   -- it leads to a node
-  node_goal : (node : Node) (goal : Goal) (v : ℕ) → v < length graph.nodes → IsNumberOf graph.nodes goal v → Leads program node goal → Leads program node (Some (node_number graph v))
+  node_goal : (node : Node) (goal : Goal) (v : ℕ) → v < length graph.nodes → IsNumberOf graph.nodes goal v
+      → Leads program node goal → Leads program node (Some (node_number graph v))
   node_goal node None v low h leads = absurd (omega arith)
   node_goal node (Some next) v low h leads = subst (λ (n : Node). Leads program node (Some n)) (sym (number_of v next h)) leads
 
-  leads_on : (u v : ℕ) → HasEdge graph u v → v < length graph.nodes → Leads program (node_number graph u) (Some (node_number graph v))
+  leads_on : (u v : ℕ) → HasEdge graph u v → v < length graph.nodes
+      → Leads program (node_number graph u) (Some (node_number graph v))
   leads_on u v edge low =
       let step = step_of u v edge in
       subst (λ (n : Node). Leads program n (Some (node_number graph v))) (sym (number_of u step.node step.from)) (node_goal step.node step.goal v low step.to step.leads)
 
   -- or to the end
-  end_goal : (node : Node) (goal : Goal) → IsNumberOf graph.nodes goal (length graph.nodes) → Leads program node goal → Leads program node None
+  end_goal : (node : Node) (goal : Goal) → IsNumberOf graph.nodes goal (length graph.nodes) → Leads program node goal
+      → Leads program node None
   end_goal node None h leads = leads
   end_goal node (Some next) h leads = let low = slice_get_within graph.nodes (length graph.nodes) next h in absurd (omega arith)
 
@@ -166,17 +177,20 @@ module _ (program : NumberedProgram) (keeps : IsKept program) (graph : GraphPart
       subst (λ (n : Node). IsLastReturn program n) (sym (number_of u step.node step.from)) (leads_ends program step.node (end_goal step.node step.goal step.to step.leads))
 
   -- a step is an edge
-  edge_of : (u v : ℕ) (goal : Goal) → u < length graph.nodes → Leads program (node_number graph u) goal → IsNumberOf graph.nodes goal v → HasEdge graph u v
+  edge_of : (u v : ℕ) (goal : Goal) → u < length graph.nodes → Leads program (node_number graph u) goal
+      → IsNumberOf graph.nodes goal v → HasEdge graph u v
   edge_of u v goal low leads to = is.listed.all u v (record { node = node_number graph u; goal = goal; from = at_number u low; leads = leads; to = to })
 
-  all : (u : ℕ) (next : Node) → u < length graph.nodes → Leads program (node_number graph u) (Some next) → (v : ℕ) × (v < length graph.nodes) × (node_number graph v ≡ next) × HasEdge graph u v
+  all : (u : ℕ) (next : Node) → u < length graph.nodes → Leads program (node_number graph u) (Some next)
+      → (v : ℕ) × (v < length graph.nodes) × (node_number graph v ≡ next) × HasEdge graph u v
   all u next low leads =
       let there = is.numbered.all next (nodes.goes_on (node_number graph u) next (kept_number u low) leads) in
       let at = placed graph.nodes next there in
       (there.0, there.1, number_of there.0 next at, edge_of u there.0 (Some next) low leads at)
 
   -- each node that is kept is reached
-  kept_reached : (node : Node) → IsKeptNode program node → (n : ℕ) → n < length graph.nodes → node_number graph n ≡ node → Reaches (HasEdge graph) 0 n
+  kept_reached : (node : Node) → IsKeptNode program node → (n : ℕ) → n < length graph.nodes → node_number graph n ≡ node
+      → Reaches (HasEdge graph) 0 n
   kept_reached _ first n low at =
       let zero : 0 ≡ n = apart 0 n zero_first.0 low (zero_first.1 ∙ sym at) in
       subst (λ (m : ℕ). Reaches (HasEdge graph) 0 m) zero (0 ∷ [], stays)
@@ -191,7 +205,8 @@ module _ (program : NumberedProgram) (keeps : IsKept program) (graph : GraphPart
   edges_differ i j d before low same =
       edge_itself (get_or graph.edges j d) (subst (λ (e : ℕ × ℕ). IsEdgeBefore e (get_or graph.edges j d)) same (is.listed.ascends i j d before low))
 
-  func_of : (n : ℕ) → n < length graph.nodes → slice_get graph.funcs n ≡ Some (function_at program (node_number graph n).path)
+  func_of : (n : ℕ) → n < length graph.nodes
+      → slice_get graph.funcs n ≡ Some (function_at program (node_number graph n).path)
   func_of n low =
       ap (λ (fs : List ℕ). slice_get fs n) is.funcs ∙ slice_get-map (λ (node : Node). function_at program node.path) graph.nodes n
       ∙ ap (option_map (λ (node : Node). function_at program node.path)) (at_number n low)

@@ -17,7 +17,8 @@ use Rattle.flow_graph.proofs.Expanding.{expanded}
 
 module _ (program : NumberedProgram) (graph : GraphParts) (keeps : IsKept program) (is : IsGraph program graph) where
   -- nodes of one name have one number
-  pub apart : (m n : ℕ) → m < length graph.nodes → n < length graph.nodes → get_or graph.names m [] ≡ get_or graph.names n [] → m ≡ n
+  pub apart : (m n : ℕ) → m < length graph.nodes → n < length graph.nodes
+      → get_or graph.names m [] ≡ get_or graph.names n [] → m ≡ n
   apart m n m_low n_low e =
       let expansion = expanded program keeps graph is in
       expansion.apart m n m_low n_low

@@ -22,7 +22,8 @@ use Rattle.flow_graph.specs.Growing.{IsGrown, Overflows}
 use Rattle.flow_graph.proofs.Order.{not_before_itself}
 
 -- what an insert makes of images
-pub map_insert : {X Y : Type 0} (f : X → Y) (xs : List X) (at : ℕ) (y : X) → map f (insert xs at y) ≡ insert (map f xs) at (f y)
+pub map_insert : {X Y : Type 0} (f : X → Y) (xs : List X) (at : ℕ) (y : X)
+    → map f (insert xs at y) ≡ insert (map f xs) at (f y)
 map_insert f xs at y =
     map-append f (take at xs) (y ∷ drop at xs) ∙ ap (λ ys. ys ++ (f y ∷ map f (drop at xs))) (sym (take-map f at xs)) ∙ ap (λ ys. take at (map f xs) ++ (f y ∷ ys)) (sym (drop-map f at xs))
 
@@ -60,7 +61,8 @@ module _ (nodes : List Node) (node : Node) (at : ℕ) where
     ]
 
     module _ (ascends : AllPairs IsBefore nodes) where
-      at_pair : (i j : ℕ) (d : Node) → i < j → j < length nodes + 1 → IsBefore (get_or (insert nodes at node) i d) (get_or (insert nodes at node) j d)
+      at_pair : (i j : ℕ) (d : Node) → i < j → j < length nodes + 1
+          → IsBefore (get_or (insert nodes at node) i d) (get_or (insert nodes at node) j d)
       at_pair i j d before inside =
           let within = gap.within in
           elim (cases_lt j at) [
@@ -95,7 +97,8 @@ module _ (nodes : List Node) (node : Node) (at : ℕ) where
       inserted i j d before inside = let long = length-insert nodes at node gap.within in at_pair i j d before (omega arith)
 
       -- a node that was put into its gap
-      pub put_grown : (pending : List Node) → length nodes < most_nodes → IsGrown nodes pending (λ (n : Node). n ≡ node) (insert nodes at node) (pending ++ node ∷ [])
+      pub put_grown : (pending : List Node) → length nodes < most_nodes
+          → IsGrown nodes pending (λ (n : Node). n ≡ node) (insert nodes at node) (pending ++ node ∷ [])
       put_grown pending low =
           let long = length-insert nodes at node gap.within in
           let longer = length-append pending (node ∷ []) in
@@ -128,7 +131,8 @@ module _ (nodes : List Node) (node : Node) (at : ℕ) where
 -- nodes that grow by some, and then by more
 module _ (a p : List Node) (New : Node → Type 0) (b q : List Node) (Next : Node → Type 0) (Both : Node → Type 0)
     (left : (n : Node) → New n → Both n) (right : (n : Node) → Next n → Both n) (grown : IsGrown a p New b q) where
-  pub grown_more : ((n : Node) → Both n → New n ⊎ Next n) → (c r : List Node) → IsGrown b q Next c r → IsGrown a p Both c r
+  pub grown_more : ((n : Node) → Both n → New n ⊎ Next n) → (c r : List Node) → IsGrown b q Next c r
+      → IsGrown a p Both c r
   grown_more cases c r more =
       let first_balance = grown.balance in
       let second_balance = more.balance in
@@ -160,7 +164,8 @@ module _ (a p : List Node) (New : Node → Type 0) (b q : List Node) (Next : Nod
   }
 
 -- new nodes told otherwise
-pub grown_as : (a p b q : List Node) (New Other : Node → Type 0) → ((n : Node) → New n → Other n) → ((n : Node) → Other n → New n) → IsGrown a p New b q → IsGrown a p Other b q
+pub grown_as : (a p b q : List Node) (New Other : Node → Type 0) → ((n : Node) → New n → Other n)
+    → ((n : Node) → Other n → New n) → IsGrown a p New b q → IsGrown a p Other b q
 grown_as a p b q New Other to back grown = record {
   ascends = grown.ascends;
   few = grown.few;
@@ -174,7 +179,8 @@ grown_as a p b q New Other to back grown = record {
   balance = grown.balance;
 }
 
-pub overflow_as : (a : List Node) (New Other : Node → Type 0) → ((n : Node) → New n → Other n) → Overflows a New → Overflows a Other
+pub overflow_as : (a : List Node) (New Other : Node → Type 0) → ((n : Node) → New n → Other n) → Overflows a New
+    → Overflows a Other
 overflow_as a New Other to over = record {
   all = over.all;
   apart = over.apart;

@@ -31,7 +31,8 @@ module _ (program : NumberedProgram) (keeps : IsKept program) (place : Place) (k
         subst (λ (g : ℕ). b < length (blocks_at program g)) f_is of_block
 
     -- what is known of a block of this path is known of the place
-    pub for_place : (goals : Option Goals) → AreGoals program (block_node (reverse p) b) goals → AreGoals program (node_of place) goals
+    pub for_place : (goals : Option Goals) → AreGoals program (block_node (reverse p) b) goals
+        → AreGoals program (node_of place) goals
     for_place goals h =
         subst (λ (block : Option ℕ). AreGoals program (node_at place.path.items block) goals) (sym some)
         (subst (λ (q : List ℕ). AreGoals program (node_at q (Some b)) goals) same h)

@@ -30,7 +30,8 @@ use Rattle.flow_graph.proofs.Order.{not_before_itself, before_before}
 use Rattle.flow_graph.proofs.Searching.{IsUpTo, up_to_left, up_to_right, up_to_cases}
 
 -- what is done, told otherwise
-pub listed_as : (Done Other : ℕ → ℕ → Type 0) (edges : List (ℕ × ℕ)) → ((u v : ℕ) → Done u v → Other u v) → ((u v : ℕ) → Other u v → Done u v) → IsListed Done edges → IsListed Other edges
+pub listed_as : (Done Other : ℕ → ℕ → Type 0) (edges : List (ℕ × ℕ)) → ((u v : ℕ) → Done u v → Other u v)
+    → ((u v : ℕ) → Other u v → Done u v) → IsListed Done edges → IsListed Other edges
 listed_as Done Other edges to back listed = record {
   ascends = listed.ascends;
   each = all_members (λ (edge : ℕ × ℕ). Other edge.0 edge.1) edges (λ edge h. to edge.0 edge.1 (All-contains (λ (edge : ℕ × ℕ). Done edge.0 edge.1) edges edge listed.each h));
@@ -44,7 +45,8 @@ pair_is : (a b u v : ℕ) → a ≡ u → b ≡ v → pair a b ≡ pair u v
 pair_is a b u v e f = ap (λ (n : ℕ). pair n b) e ∙ ap (λ (n : ℕ). pair u n) f
 
 -- one edge more
-pub listed_push : (Done : ℕ → ℕ → Type 0) (edges : List (ℕ × ℕ)) (a b : ℕ) → IsListed Done edges → ((u v : ℕ) → Done u v → IsEdgeBefore (u, v) (a, b))
+pub listed_push : (Done : ℕ → ℕ → Type 0) (edges : List (ℕ × ℕ)) (a b : ℕ) → IsListed Done edges
+    → ((u v : ℕ) → Done u v → IsEdgeBefore (u, v) (a, b))
     → IsListed (λ (u v : ℕ). Done u v ⊎ ((u ≡ a) × (v ≡ b))) (edges ++ (a, b) ∷ [])
 listed_push Done edges a b listed before = record {
   ascends = all_pairs_push IsEdgeBefore edges (a, b) listed.ascends (λ k d inside.
@@ -60,7 +62,8 @@ listed_push Done edges a b listed before = record {
 }
 
 -- a node before another has the lower number
-pub number_before : (nodes : List Node) → AllPairs IsBefore nodes → (m n : Node) (v w : ℕ) → slice_get nodes v ≡ Some m → slice_get nodes w ≡ Some n → IsBefore m n → v < w
+pub number_before : (nodes : List Node) → AllPairs IsBefore nodes → (m n : Node) (v w : ℕ) → slice_get nodes v ≡ Some m
+    → slice_get nodes w ≡ Some n → IsBefore m n → v < w
 number_before nodes ascends m n v w at_m at_n before = elim (cases_lt v w) [
   | inl low ↦ low
   | inr high ↦
@@ -77,7 +80,8 @@ number_before nodes ascends m n v w at_m at_n before = elim (cases_lt v w) [
 ]
 
 -- a node stands at one place
-one_place : (nodes : List Node) → AllPairs IsBefore nodes → (n : Node) (v w : ℕ) → slice_get nodes v ≡ Some n → slice_get nodes w ≡ Some n → v ≡ w
+one_place : (nodes : List Node) → AllPairs IsBefore nodes → (n : Node) (v w : ℕ) → slice_get nodes v ≡ Some n
+    → slice_get nodes w ≡ Some n → v ≡ w
 one_place nodes ascends n v w at_v at_w =
     let v_is : get_or nodes v n ≡ n = get_or_from_slice_get nodes v n n at_v in
     let w_is : get_or nodes w n ≡ n = get_or_from_slice_get nodes w n n at_w in
@@ -95,7 +99,8 @@ less_is : (m n : ℕ) → m < n → nat_cmp m n ≡ Less
 less_is m n low = grind (arith, nat_tests)
 
 -- of one path the entry comes first, and blocks are in their order
-pub rank_before : (path : List ℕ) (a b : Option ℕ) → block_rank a < block_rank b → IsBefore (node_at path a) (node_at path b)
+pub rank_before : (path : List ℕ) (a b : Option ℕ) → block_rank a < block_rank b
+    → IsBefore (node_at path a) (node_at path b)
 rank_before path a b low =
     ap (λ (o : Ordering). ordering_then o (nat_cmp (block_rank a) (block_rank b))) (tied_itself nat_list_cmp_total (reverse (reverse path))) ∙ less_is (block_rank a) (block_rank b) low
 
@@ -109,7 +114,8 @@ IsDoneInRow program nodes k path blocks j u v = IsDoneBefore program nodes k u v
 
 module _ (program : NumberedProgram) (nodes : List Node) (k : ℕ) (path : List ℕ) (blocks : List (Option ℕ)) where
   -- the edges to nodes of one instance, block by block
-  pub row_first : (edges : List (ℕ × ℕ)) → IsListed (IsDoneBefore program nodes k) edges → IsListed (IsDoneInRow program nodes k path blocks 0) edges
+  pub row_first : (edges : List (ℕ × ℕ)) → IsListed (IsDoneBefore program nodes k) edges
+      → IsListed (IsDoneInRow program nodes k path blocks 0) edges
   row_first edges listed =
       listed_as (IsDoneBefore program nodes k) (IsDoneInRow program nodes k path blocks 0) edges (λ u v h. inl h) (λ u v h. elim h [ inl old ↦ old | inr (same, (n, (block, within, is), at)) ↦ no_member block within ]) listed
 
@@ -133,7 +139,8 @@ module _ (program : NumberedProgram) (nodes : List Node) (k : ℕ) (path : List 
           inr (row.0, number_before nodes ascends (node_at path up_to.0) (node_at path x) v to (row.1.2 ∙ up_to.2) at (rank_before path up_to.0 x rank))
     ]
 
-    pub row_more : (edges : List (ℕ × ℕ)) → IsListed (IsDoneInRow program nodes k path blocks j) edges → IsListed (IsDoneInRow program nodes k path blocks (j + 1)) (edges ++ (k, to) ∷ [])
+    pub row_more : (edges : List (ℕ × ℕ)) → IsListed (IsDoneInRow program nodes k path blocks j) edges
+        → IsListed (IsDoneInRow program nodes k path blocks (j + 1)) (edges ++ (k, to) ∷ [])
     row_more edges listed =
         listed_as (λ (u v : ℕ). IsDoneInRow program nodes k path blocks j u v ⊎ ((u ≡ k) × (v ≡ to))) (IsDoneInRow program nodes k path blocks (j + 1)) (edges ++ (k, to) ∷ [])
         (λ u v h. elim h [
@@ -150,7 +157,8 @@ module _ (program : NumberedProgram) (nodes : List Node) (k : ℕ) (path : List 
         (listed_push (IsDoneInRow program nodes k path blocks j) edges k to listed done_before)
 
   -- all edges from a node
-  pub row_all : (node : Node) (goals : Goals) → slice_get nodes k ≡ Some node → AreGoals program node (Some goals) → goals.path.items ≡ path → goals.blocks.items ≡ take (length blocks) blocks
+  pub row_all : (node : Node) (goals : Goals) → slice_get nodes k ≡ Some node → AreGoals program node (Some goals)
+      → goals.path.items ≡ path → goals.blocks.items ≡ take (length blocks) blocks
       → (edges : List (ℕ × ℕ)) → IsListed (IsDoneInRow program nodes k path blocks (length blocks)) edges → IsListed (IsDoneBefore program nodes (k + 1)) edges
   row_all node goals at are path_is blocks_are edges listed =
       listed_as (IsDoneInRow program nodes k path blocks (length blocks)) (IsDoneBefore program nodes (k + 1)) edges
@@ -181,7 +189,8 @@ module _ (program : NumberedProgram) (nodes : List Node) (k : ℕ) (path : List 
 
 module _ (program : NumberedProgram) (nodes : List Node) (k : ℕ) where
   -- the edge to the end
-  pub end_more : (node : Node) → slice_get nodes k ≡ Some node → AreGoals program node None → (edges : List (ℕ × ℕ)) → IsListed (IsDoneBefore program nodes k) edges
+  pub end_more : (node : Node) → slice_get nodes k ≡ Some node → AreGoals program node None → (edges : List (ℕ × ℕ))
+      → IsListed (IsDoneBefore program nodes k) edges
       → IsListed (IsDoneBefore program nodes (k + 1)) (edges ++ (k, length nodes) ∷ [])
   end_more node at are edges listed =
       listed_as (λ (u v : ℕ). IsDoneBefore program nodes k u v ⊎ ((u ≡ k) × (v ≡ length nodes))) (IsDoneBefore program nodes (k + 1)) (edges ++ (k, length nodes) ∷ [])
@@ -203,7 +212,8 @@ module _ (program : NumberedProgram) (nodes : List Node) (k : ℕ) where
       (listed_push (IsDoneBefore program nodes k) edges k (length nodes) listed (λ u v h. inl h.0))
 
 -- all edges
-pub all_listed : (program : NumberedProgram) (nodes : List Node) (edges : List (ℕ × ℕ)) → IsListed (IsDoneBefore program nodes (length nodes)) edges → IsEdges program nodes edges
+pub all_listed : (program : NumberedProgram) (nodes : List Node) (edges : List (ℕ × ℕ))
+    → IsListed (IsDoneBefore program nodes (length nodes)) edges → IsEdges program nodes edges
 all_listed program nodes edges listed = record {
   ascends = listed.ascends;
   steps = all_members (λ (edge : ℕ × ℕ). IsStep program nodes edge.0 edge.1) edges (λ edge h. (All-contains (λ (edge : ℕ × ℕ). IsDoneBefore program nodes (length nodes) edge.0 edge.1) edges edge listed.each h).1);

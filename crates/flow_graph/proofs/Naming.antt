@@ -34,7 +34,8 @@ decimal_digits n low = decimal_by_steps (λ m ds. All IsDigit ds)
     n low
 
 -- what stands before the first quote, and after it
-before_quote : (xs ys more others : List ℕ) → All IsDigit xs → All IsDigit ys → xs ++ 34 ∷ more ≡ ys ++ 34 ∷ others → (xs ≡ ys) × (more ≡ others)
+before_quote : (xs ys more others : List ℕ) → All IsDigit xs → All IsDigit ys → xs ++ 34 ∷ more ≡ ys ++ 34 ∷ others
+    → (xs ≡ ys) × (more ≡ others)
 before_quote [] [] more others a b e = (refl, cc)
 before_quote [] (y ∷ ys) more others a b e = let d = All-head IsDigit y ys b in let least = d.least in let same : 34 ≡ y = cc in absurd (omega arith)
 before_quote (x ∷ xs) [] more others a b e = let d = All-head IsDigit x xs a in let least = d.least in let same : x ≡ 34 = cc in absurd (omega arith)
@@ -86,7 +87,8 @@ wide : (n : ℕ) → n < 2 ^ 32 → n < 2 ^ 64
 wide n low = omega arith
 
 -- a call's block and name, and what follows them
-same_call : (x y : ℕ) (name other s t : List ℕ) → x < 2 ^ 32 → y < 2 ^ 32 → 46 ∷ (decimal x ++ (quoted name ++ s)) ≡ 46 ∷ (decimal y ++ (quoted other ++ t))
+same_call : (x y : ℕ) (name other s t : List ℕ) → x < 2 ^ 32 → y < 2 ^ 32
+    → 46 ∷ (decimal x ++ (quoted name ++ s)) ≡ 46 ∷ (decimal y ++ (quoted other ++ t))
     → (x ≡ y) × ((name ++ 34 ∷ []) ++ s ≡ (other ++ 34 ∷ []) ++ t)
 same_call x y name other s t x_low y_low e =
     let cut = before_quote (decimal x) (decimal y) ((name ++ 34 ∷ []) ++ s) ((other ++ 34 ∷ []) ++ t) (decimal_digits x (wide x x_low)) (decimal_digits y (wide y y_low)) (ap (λ (zs : List ℕ). drop 1 zs) e) in
@@ -106,7 +108,8 @@ module _ (program : NumberedProgram) where
       ∙ ap (λ (xs : List ℕ). path_name program start ++ (46 ∷ xs)) (append_assoc (decimal b) (quoted (name_at program g)) (rest_name program g calls block))
 
   -- where what follows is one for the same function, so it is after a call
-  same_on : (f x y : ℕ) (xs ys : List ℕ) (a b : Option ℕ) → x < 2 ^ 32 → y < 2 ^ 32 → rest_name program f (x ∷ xs) a ≡ rest_name program f (y ∷ ys) b
+  same_on : (f x y : ℕ) (xs ys : List ℕ) (a b : Option ℕ) → x < 2 ^ 32 → y < 2 ^ 32
+      → rest_name program f (x ∷ xs) a ≡ rest_name program f (y ∷ ys) b
       → ((g : ℕ) → rest_name program g xs a ≡ rest_name program g ys b → (xs ≡ ys) × (a ≡ b)) → (x ∷ xs ≡ y ∷ ys) × (a ≡ b)
   same_on f x y xs ys a b x_low y_low e again =
       let g : ℕ = callee_of (ending_at program f x) in
@@ -119,7 +122,9 @@ module _ (program : NumberedProgram) where
       (ap (λ (z : ℕ). z ∷ xs) cut.0 ∙ ap (λ (zs : List ℕ). y ∷ zs) rest.0, rest.1)
 
   -- what follows is that of one list of calls and one block
-  same_rest : (f : ℕ) (xs ys : List ℕ) (a b : Option ℕ) → All (λ (x : ℕ). x < 2 ^ 32) xs → All (λ (y : ℕ). y < 2 ^ 32) ys → IsSmall a → IsSmall b → rest_name program f xs a ≡ rest_name program f ys b → (xs ≡ ys) × (a ≡ b)
+  same_rest : (f : ℕ) (xs ys : List ℕ) (a b : Option ℕ) → All (λ (x : ℕ). x < 2 ^ 32) xs
+      → All (λ (y : ℕ). y < 2 ^ 32) ys → IsSmall a → IsSmall b → rest_name program f xs a ≡ rest_name program f ys b
+      → (xs ≡ ys) × (a ≡ b)
   same_rest f [] [] a b xs_low ys_low a_low b_low e = (refl, same_word a b a_low b_low (ap (λ (zs : List ℕ). drop 1 zs) e))
   same_rest f [] (y ∷ ys) a b xs_low ys_low a_low b_low e = absurd (no_call _ _ e)
   same_rest f (x ∷ xs) [] a b xs_low ys_low a_low b_low e = absurd (no_call _ _ (sym e))
@@ -159,7 +164,8 @@ module _ (program : NumberedProgram) (keeps : IsKept program) where
       ap (λ (path : List ℕ). node_name program (node_with path node.block)) (sym twice) ∙ name_parts program (reverse node.path) [] node.block
 
   -- nodes of one name are one
-  pub same_name : (m n : Node) → IsPlaced program m → IsPlaced program n → node_name program m ≡ node_name program n → m ≡ n
+  pub same_name : (m n : Node) → IsPlaced program m → IsPlaced program n → node_name program m ≡ node_name program n
+      → m ≡ n
   same_name m n m_placed n_placed e =
       let rests = append_cancel_left (quoted (name_at program program.root)) (rest_name program program.root (reverse m.path) m.block) (rest_name program program.root (reverse n.path) n.block)
       (sym (whole_name m) ∙ e ∙ whole_name n) in
@@ -170,7 +176,8 @@ module _ (program : NumberedProgram) (keeps : IsKept program) where
 
   -- ---- names as reports spell them
 
-  named_in : (whole : WholeProgram) (start : ℕ) (funcs : List Function) (f : ℕ) (function : NumberedFunction) → slice_get (functions_from whole start funcs) f ≡ Some function
+  named_in : (whole : WholeProgram) (start : ℕ) (funcs : List Function) (f : ℕ) (function : NumberedFunction)
+      → slice_get (functions_from whole start funcs) f ≡ Some function
       → (func : Function) × Contains funcs func × (func.name ≡ function.name)
   named_in whole start [] f function e = absurd (cc)
   named_in whole start (func ∷ funcs) zero function e = (func, contained (func ∷ funcs) 0 func refl, ap (λ (o : NumberedFunction). o.name) (same_Some _ function e))
@@ -195,7 +202,8 @@ module _ (program : NumberedProgram) (keeps : IsKept program) where
       of_call (path_name program path) (name_at program (function_at program (b ∷ path))) b (path_spelled path calls.1) (All-head (λ (b : ℕ). b < 2 ^ 32) b path (low_calls (b ∷ path) calls))
       (function_named (function_at program (b ∷ path)) (path_low program keeps (b ∷ path) calls))
 
-  spelled_at : (path : List ℕ) (block : Option ℕ) → IsCallPath program path → IsSmall block → IsNodeName (path_name program path ++ (58 ∷ block_word block))
+  spelled_at : (path : List ℕ) (block : Option ℕ) → IsCallPath program path → IsSmall block
+      → IsNodeName (path_name program path ++ (58 ∷ block_word block))
   spelled_at path None calls low = of_entry (path_name program path) (path_spelled path calls)
   spelled_at path (Some b) calls low = of_block (path_name program path) b (path_spelled path calls) low
 

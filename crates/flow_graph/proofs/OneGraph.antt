@@ -27,13 +27,15 @@ edge_further e f g (inr a) (inr b) = let first = a.0 in let second = b.0 in let 
 
 module _ (program : NumberedProgram) where
   -- its nodes have one numbering
-  pub one_numbering : (nodes others : List Node) → IsNumbering program nodes → IsNumbering program others → nodes ≡ others
+  pub one_numbering : (nodes others : List Node) → IsNumbering program nodes → IsNumbering program others
+      → nodes ≡ others
   one_numbering nodes others one other = one_list IsBefore not_before_itself before_before nodes others one.ascends other.ascends
       (λ node h. other.all node (All-contains (IsKeptNode program) nodes node one.kept h))
       (λ node h. one.all node (All-contains (IsKeptNode program) others node other.kept h))
 
   -- its edges one list
-  pub one_edges : (nodes : List Node) (edges others : List (ℕ × ℕ)) → IsEdges program nodes edges → IsEdges program nodes others → edges ≡ others
+  pub one_edges : (nodes : List Node) (edges others : List (ℕ × ℕ)) → IsEdges program nodes edges
+      → IsEdges program nodes others → edges ≡ others
   one_edges nodes edges others one other =
       let Step : Edge → Type 0 = λ edge. IsStep program nodes edge.0 edge.1 in
       one_list IsEdgeBefore edge_itself edge_further edges others one.ascends other.ascends
@@ -54,7 +56,8 @@ module _ (program : NumberedProgram) where
       ∙ ap (λ (xs : List (List ℕ)). made other.nodes other.funcs xs graph.edges) names ∙ ap (λ (es : List Edge). made other.nodes other.funcs other.names es) edges
 
   -- more than as many nodes are kept as a numbering has
-  too_many : (nodes : List Node) → IsNumbering program nodes → length nodes ≤ most_nodes → HasMoreNodes program most_nodes → ⊥
+  too_many : (nodes : List Node) → IsNumbering program nodes → length nodes ≤ most_nodes
+      → HasMoreNodes program most_nodes → ⊥
   too_many nodes numbered few many =
       let no_more = no_longer many.nodes nodes many.apart (λ node h. numbered.all node (All-contains (IsKeptNode program) many.nodes node many.kept h)) in
       let more = many.more in

@@ -14,7 +14,8 @@ module _ {X : Type 0} (R : X → X → Type 0) (x : X) (xs : List X) (pairs : Al
 
 module _ {X : Type 0} (Before : X → X → Type 0) (itself : (x : X) → Before x x → ⊥) (further : (x y z : X) → Before x y → Before y z → Before x z) where
   -- two lists in one order with the same members are one
-  pub one_list : (xs ys : List X) → AllPairs Before xs → AllPairs Before ys → ((x : X) → Contains xs x → Contains ys x) → ((x : X) → Contains ys x → Contains xs x) → xs ≡ ys
+  pub one_list : (xs ys : List X) → AllPairs Before xs → AllPairs Before ys → ((x : X) → Contains xs x → Contains ys x)
+      → ((x : X) → Contains ys x → Contains xs x) → xs ≡ ys
   one_list [] [] one other there back = refl
   one_list [] (y ∷ ys) one other there back = no_member y (back y (first_member y ys))
   one_list (x ∷ xs) [] one other there back = no_member x (there x (first_member x xs))
@@ -33,7 +34,8 @@ cut_at [] x h = no_member x h
 cut_at (y ∷ xs) x h = first_or_further y xs x h (λ e. ([], xs, ap (λ z. z ∷ xs) e)) (λ more. let r = cut_at xs x more in (y ∷ r.0, r.1, ap (λ zs. y ∷ zs) r.2))
 
 -- a list without repeats is no longer than one that has its members
-pub no_longer : {X : Type 0} (xs ys : List X) → AllPairs (λ (x y : X). x ≢ y) xs → ((x : X) → Contains xs x → Contains ys x) → length xs ≤ length ys
+pub no_longer : {X : Type 0} (xs ys : List X) → AllPairs (λ (x y : X). x ≢ y) xs
+    → ((x : X) → Contains xs x → Contains ys x) → length xs ≤ length ys
 no_longer [] ys apart among = omega arith
 no_longer {X} (x ∷ xs) ys apart among =
     let cut = cut_at ys x (among x (first_member x xs)) in

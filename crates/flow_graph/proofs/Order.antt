@@ -28,7 +28,8 @@ node_total = then_total (on_total (λ (n : Node). reverse n.path) nat_list_cmp_t
 same_nat : (m n : ℕ) → nat_cmp m n ≡ Equal → m ≡ n
 same_nat m n e = by_ranked (m < n) (m ≡ n) (n < m) (nat_cmp m n) (ranked m n (nat_cmp m n) refl) (λ l h. absurd (cc)) (λ q h. h) (λ g h. absurd (cc))
 
-then_same : (x y : ℕ) (xs ys : List ℕ) → (slice_cmp nat_cmp xs ys ≡ Equal → xs ≡ ys) → (o : Ordering) → o ≡ nat_cmp x y → ordering_then o (slice_cmp nat_cmp xs ys) ≡ Equal → x ∷ xs ≡ y ∷ ys
+then_same : (x y : ℕ) (xs ys : List ℕ) → (slice_cmp nat_cmp xs ys ≡ Equal → xs ≡ ys) → (o : Ordering) → o ≡ nat_cmp x y
+    → ordering_then o (slice_cmp nat_cmp xs ys) ≡ Equal → x ∷ xs ≡ y ∷ ys
 then_same x y xs ys rest_same Less h e = absurd (cc)
 then_same x y xs ys rest_same Equal h e = let first = same_nat x y (sym h) in let rest = rest_same e in cc
 then_same x y xs ys rest_same Greater h e = absurd (cc)
@@ -56,7 +57,8 @@ record_is m n e f = ap (λ (path : List ℕ). made path m.block) e ∙ ap (λ (b
 -- nodes of which none comes first are the same
 pub same_node : (m n : Node) → node_cmp m n ≡ Equal → m ≡ n
 same_node m n e = by_paths (slice_cmp nat_cmp (reverse m.path) (reverse n.path)) refl e where
-  by_paths : (o : Ordering) → o ≡ slice_cmp nat_cmp (reverse m.path) (reverse n.path) → ordering_then o (nat_cmp (block_rank m.block) (block_rank n.block)) ≡ Equal → m ≡ n
+  by_paths : (o : Ordering) → o ≡ slice_cmp nat_cmp (reverse m.path) (reverse n.path)
+      → ordering_then o (nat_cmp (block_rank m.block) (block_rank n.block)) ≡ Equal → m ≡ n
   by_paths Less h e = absurd (cc)
   by_paths Equal h e =
       let paths : m.path ≡ n.path = sym (reverse-reverse m.path) ∙ ap (λ (xs : List ℕ). reverse xs) (same_list (reverse m.path) (reverse n.path) (sym h)) ∙ reverse-reverse n.path in

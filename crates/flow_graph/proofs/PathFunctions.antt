@@ -30,17 +30,20 @@ module _ (program : NumberedProgram) (keeps : IsKept program) where
       let lower = call_falls program keeps.ranked.ranks keeps.ranked.ranked k b call.callee call.next call.args call.result found.0 found.1 found.2 in
       subst (λ (f : ℕ). rank f < rank_at path) (sym (ap callee_of call.ends)) lower
 
-  all_above : (low high : ℕ) (fs : List ℕ) → low < high → All (λ (f : ℕ). high ≤ rank f) fs → All (λ (f : ℕ). low < rank f) fs
+  all_above : (low high : ℕ) (fs : List ℕ) → low < high → All (λ (f : ℕ). high ≤ rank f) fs
+      → All (λ (f : ℕ). low < rank f) fs
   all_above low high fs less all k d inside = let above = all k d inside in omega arith
 
-  no_less : (path : List ℕ) → IsCallPath program path → All (λ (f : ℕ). rank_at path ≤ rank f) (functions_on program path)
+  no_less : (path : List ℕ) → IsCallPath program path
+      → All (λ (f : ℕ). rank_at path ≤ rank f) (functions_on program path)
   no_less [] calls = All-cons (λ (f : ℕ). rank_at [] ≤ rank f) program.root [] (omega arith) (All-nil (λ (f : ℕ). rank_at [] ≤ rank f))
   no_less (b ∷ path) calls =
       All-cons (λ (f : ℕ). rank_at (b ∷ path) ≤ rank f) (function_at program (b ∷ path)) (functions_on program path) (omega arith)
       (λ k d inside. let above = no_less path calls.1 k d inside in let fall = falls b path calls in omega arith)
 
   -- their ranks rise
-  ranks_rise : (path : List ℕ) → IsCallPath program path → AllPairs (λ (f g : ℕ). rank f < rank g) (functions_on program path)
+  ranks_rise : (path : List ℕ) → IsCallPath program path
+      → AllPairs (λ (f g : ℕ). rank f < rank g) (functions_on program path)
   ranks_rise [] calls = λ i j d before inside. absurd (omega arith)
   ranks_rise (b ∷ path) calls =
       AllPairs-cons (λ (f g : ℕ). rank f < rank g) (function_at program (b ∷ path)) (functions_on program path)

@@ -44,7 +44,8 @@ module _ (path : List ℕ) (blocks : List (Option ℕ)) (k : ℕ) where
     ]
 
   -- they are among all
-  pub up_to_in : (all : List (Option ℕ)) → blocks ≡ all → (n : Node) → IsUpTo path blocks k n → (block : Option ℕ) × Contains all block × (Some n ≡ Some (node_at path block))
+  pub up_to_in : (all : List (Option ℕ)) → blocks ≡ all → (n : Node) → IsUpTo path blocks k n
+      → (block : Option ℕ) × Contains all block × (Some n ≡ Some (node_at path block))
   up_to_in all same n h =
       let there : Contains blocks h.0 = subst (λ (bs : List (Option ℕ)). Contains bs h.0) (take-append-drop k blocks) (Contains-append_left (take k blocks) (drop k blocks) h.0 h.1) in
       (h.0, subst (λ (bs : List (Option ℕ)). Contains bs h.0) same there, h.2)
@@ -75,7 +76,8 @@ fault_of faults.Memory P Q f h = tt
 
 module _ (program : NumberedProgram) where
   -- too many nodes that are kept
-  pub more_nodes : (nodes : List Node) (New : Node → Type 0) → All (IsKeptNode program) nodes → ((n : Node) → New n → IsKeptNode program n) → Overflows nodes New → HasMoreNodes program most_nodes
+  pub more_nodes : (nodes : List Node) (New : Node → Type 0) → All (IsKeptNode program) nodes
+      → ((n : Node) → New n → IsKeptNode program n) → Overflows nodes New → HasMoreNodes program most_nodes
   more_nodes nodes New kept new over = record {
     nodes = over.all;
     apart = over.apart;
@@ -87,7 +89,8 @@ module _ (program : NumberedProgram) where
   }
 
   -- the search begins
-  pub searched_first : (nodes pending : List Node) → IsGrown [] [] (λ (n : Node). n ≡ first_node) nodes pending → IsSearched program nodes pending
+  pub searched_first : (nodes pending : List Node) → IsGrown [] [] (λ (n : Node). n ≡ first_node) nodes pending
+      → IsSearched program nodes pending
   searched_first nodes pending grown = record {
     ascends = grown.ascends;
     few = grown.few;
@@ -107,7 +110,8 @@ module _ (program : NumberedProgram) where
     next_kept n leads = goes_on node n node_kept leads
 
     -- the search goes on
-    pub searched_on : (more waiting : List Node) → IsGrown nodes front (λ (n : Node). Leads program node (Some n)) more waiting → IsSearched program more waiting
+    pub searched_on : (more waiting : List Node)
+        → IsGrown nodes front (λ (n : Node). Leads program node (Some n)) more waiting → IsSearched program more waiting
     searched_on more waiting grown = record {
       ascends = grown.ascends;
       few = grown.few;

@@ -17,23 +17,27 @@ use Rattle.flow_graph.specs.Goals.{GoalsHave, GoesToTargets, AreGoals}
 use Rattle.flow_graph.specs.declared.goals.Goals.{Goals}
 
 -- all has been read
-pub whole_read : (xs : List ℕ) (ts : List (ℕ × ℕ)) (k others : ℕ) → length ts ≤ k → xs ++ map (λ (target : ℕ × ℕ). target.1) (drop k ts) ≡ others ∷ map (λ (target : ℕ × ℕ). target.1) ts
+pub whole_read : (xs : List ℕ) (ts : List (ℕ × ℕ)) (k others : ℕ) → length ts ≤ k
+    → xs ++ map (λ (target : ℕ × ℕ). target.1) (drop k ts) ≡ others ∷ map (λ (target : ℕ × ℕ). target.1) ts
     → xs ≡ others ∷ map (λ (target : ℕ × ℕ). target.1) ts
 whole_read xs ts k others past e =
     sym (append-nil xs) ∙ sym (ap (λ (rest : List (ℕ × ℕ)). xs ++ map (λ (target : ℕ × ℕ). target.1) rest) (drop_of_length-le ts past)) ∙ e
 
 -- members of the list of a switch's blocks are its targets
-pub among_targets : (ts : List (ℕ × ℕ)) (others to : ℕ) → Contains (others ∷ map (λ (target : ℕ × ℕ). target.1) ts) to → IsTarget ts others to
+pub among_targets : (ts : List (ℕ × ℕ)) (others to : ℕ) → Contains (others ∷ map (λ (target : ℕ × ℕ). target.1) ts) to
+    → IsTarget ts others to
 among_targets ts others to h = first_or_further others (map (λ (target : ℕ × ℕ). target.1) ts) to h (λ e. inl (sym e)) (λ more. inr more)
 
-pub targets_among : (ts : List (ℕ × ℕ)) (others to : ℕ) → IsTarget ts others to → Contains (others ∷ map (λ (target : ℕ × ℕ). target.1) ts) to
+pub targets_among : (ts : List (ℕ × ℕ)) (others to : ℕ) → IsTarget ts others to
+    → Contains (others ∷ map (λ (target : ℕ × ℕ). target.1) ts) to
 targets_among ts others to h = elim h [
   | inl e ↦ subst (λ (n : ℕ). Contains (others ∷ map (λ (target : ℕ × ℕ). target.1) ts) n) (sym e) (first_member others (map (λ (target : ℕ × ℕ). target.1) ts))
   | inr more ↦ further_member others (map (λ (target : ℕ × ℕ). target.1) ts) to more
 ]
 
 -- numbers as blocks ascend as they do
-pub some_ascend : (xs : List ℕ) → AllPairs (λ (a b : ℕ). a < b) xs → AllPairs (λ (a b : Option ℕ). block_rank a < block_rank b) (map (λ (n : ℕ). Some n) xs)
+pub some_ascend : (xs : List ℕ) → AllPairs (λ (a b : ℕ). a < b) xs
+    → AllPairs (λ (a b : Option ℕ). block_rank a < block_rank b) (map (λ (n : ℕ). Some n) xs)
 some_ascend xs up i j d before inside =
     let long = length-map xs (λ (n : ℕ). Some n) in
     let first = get_or-map (λ (n : ℕ). Some n) xs i 0 d (omega arith) in
@@ -44,7 +48,8 @@ some_ascend xs up i j d before inside =
     omega arith
 
 -- what a switch leads to, from the numbers of its blocks
-pub switch_goes : (goals : Goals) (path : List ℕ) (ts : List (ℕ × ℕ)) (others : ℕ) (xs : List ℕ) → goals.path.items ≡ path → goals.blocks.items ≡ map (λ (n : ℕ). Some n) xs
+pub switch_goes : (goals : Goals) (path : List ℕ) (ts : List (ℕ × ℕ)) (others : ℕ) (xs : List ℕ)
+    → goals.path.items ≡ path → goals.blocks.items ≡ map (λ (n : ℕ). Some n) xs
     → ((to : ℕ) → Contains xs to ↔ IsTarget ts others to) → AllPairs (λ (a b : ℕ). a < b) xs → GoesToTargets goals path ts others
 switch_goes goals path ts others xs path_is blocks_are each up = record {
   path_is = path_is;
@@ -58,7 +63,9 @@ switch_goes goals path ts others xs path_is blocks_are each up = record {
 
 module _ (program : NumberedProgram) (node : Node) (goals : Goals) (path : List ℕ) where
   -- where a node leads to one node alone
-  pub one_goal : (to : Option ℕ) → GoalsHave goals path (to ∷ []) → ((goal : Goal) → goal ≡ Some (node_at path to) → Leads program node goal) → ((goal : Goal) → Leads program node goal → goal ≡ Some (node_at path to))
+  pub one_goal : (to : Option ℕ) → GoalsHave goals path (to ∷ [])
+      → ((goal : Goal) → goal ≡ Some (node_at path to) → Leads program node goal)
+      → ((goal : Goal) → Leads program node goal → goal ≡ Some (node_at path to))
       → AreGoals program node (Some goals)
   one_goal to have from leads = record {
     each = λ goal in_goals. from goal (

@@ -15,7 +15,8 @@ use Rattle.flow_graph.specs.declared.place.Place.{Place}
 use Rattle.flow_graph.proofs.Among.{nodes_long, stands_is}
 
 -- images of nodes are images of places
-pub map_nodes : {X : Type 0} (f : Node → X) (places : List Place) → map f (nodes_of places) ≡ map (λ (place : Place). f (node_of place)) places
+pub map_nodes : {X : Type 0} (f : Node → X) (places : List Place)
+    → map f (nodes_of places) ≡ map (λ (place : Place). f (node_of place)) places
 map_nodes f [] = refl
 map_nodes f (place ∷ places) = ap (λ xs. f (node_of place) ∷ xs) (map_nodes f places)
 
@@ -32,7 +33,9 @@ module _ (program : NumberedProgram) (places : List Place) where
     path_at keeps = (kept_is_placed program keeps (node_of place) kept_at).path
 
   -- the parts of a graph are those of the program's
-  pub whole_graph : (edges : List (ℕ × ℕ)) (funcs : List ℕ) (names : List (List ℕ)) → IsNumbering program (nodes_of places) → length places ≤ most_nodes → IsEdges program (nodes_of places) edges → length edges ≤ most_edges
+  pub whole_graph : (edges : List (ℕ × ℕ)) (funcs : List ℕ) (names : List (List ℕ))
+      → IsNumbering program (nodes_of places) → length places ≤ most_nodes → IsEdges program (nodes_of places) edges
+      → length edges ≤ most_edges
       → funcs ≡ map (λ (place : Place). function_at program (reverse place.path.items)) places → names ≡ map (λ (place : Place). node_name program (node_of place)) places
       → IsGraph program (record { nodes = nodes_of places; funcs = funcs; names = names; edges = edges })
   whole_graph edges funcs names numbered few listed few_edges funcs_are names_are =

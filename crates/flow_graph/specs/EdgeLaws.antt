@@ -23,7 +23,8 @@ AreFirstFrom graph firsts least = (e u v : ℕ) → least ≤ e → slice_get gr
 
 module _ (program : NumberedProgram) (graph : GraphParts) (is : IsGraph program graph) where
   -- where a node leads, an edge leads
-  pub edge_to : (n : ℕ) (node next : Node) → slice_get graph.nodes n ≡ Some node → Leads program node (Some next) → HasEdge graph n next
+  pub edge_to : (n : ℕ) (node next : Node) → slice_get graph.nodes n ≡ Some node → Leads program node (Some next)
+      → HasEdge graph n next
   edge_to n node next at leads =
       let kept : IsKeptNode program node = All-contains (IsKeptNode program) graph.nodes node is.numbered.kept (contained graph.nodes n node at) in
       let among = is.numbered.all next (goes_on node next kept leads) in

@@ -17,7 +17,8 @@ pub record IsEdgeUpTo (edges : List (ℕ × ℕ)) (u e first : ℕ) : Type 0 whe
 -- for each node from which edges lead, the number of the first of them
 pub record AreFirstEdges (graph : GraphParts) (firsts : List ℕ) : Type 0 where
   pub long : length firsts ≡ length graph.nodes
-  pub each : (e u v : ℕ) → slice_get graph.edges e ≡ Some (u, v) → (first : ℕ) × (slice_get firsts u ≡ Some first) × IsEdgeUpTo graph.edges u e first
+  pub each : (e u v : ℕ) → slice_get graph.edges e ≡ Some (u, v)
+      → (first : ℕ) × (slice_get firsts u ≡ Some first) × IsEdgeUpTo graph.edges u e first
 
 -- an edge leads from node u to this node
 pub record HasEdge (graph : GraphParts) (u : ℕ) (goal : Node) : Type 0 where

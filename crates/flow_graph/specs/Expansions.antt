@@ -47,13 +47,18 @@ pub record IsExpansion (program : NumberedProgram) (graph : GraphParts) : Type 0
   pub first : node_number graph 0 ≡ first_node
   pub within : (u v : ℕ) → HasEdge graph u v → (u < length graph.nodes) × (v ≤ length graph.nodes)
   pub reached : (n : ℕ) → n < length graph.nodes → Reaches (HasEdge graph) 0 n
-  pub apart : (m n : ℕ) → m < length graph.nodes → n < length graph.nodes → node_number graph m ≡ node_number graph n → m ≡ n
-  pub links : (u v : ℕ) → HasEdge graph u v → v < length graph.nodes → IsLink (node_number graph u) (node_number graph v)
-  pub leads : (u v : ℕ) → HasEdge graph u v → v < length graph.nodes → Leads program (node_number graph u) (Some (node_number graph v))
+  pub apart : (m n : ℕ) → m < length graph.nodes → n < length graph.nodes → node_number graph m ≡ node_number graph n
+      → m ≡ n
+  pub links : (u v : ℕ) → HasEdge graph u v → v < length graph.nodes
+      → IsLink (node_number graph u) (node_number graph v)
+  pub leads : (u v : ℕ) → HasEdge graph u v → v < length graph.nodes
+      → Leads program (node_number graph u) (Some (node_number graph v))
   pub ends : (u : ℕ) → HasEdge graph u (length graph.nodes) → IsLastReturn program (node_number graph u)
   pub all : (u : ℕ) (next : Node) → u < length graph.nodes → Leads program (node_number graph u) (Some next)
       → (v : ℕ) × (v < length graph.nodes) × (node_number graph v ≡ next) × HasEdge graph u v
-  pub all_ends : (u : ℕ) → u < length graph.nodes → Leads program (node_number graph u) None → HasEdge graph u (length graph.nodes)
+  pub all_ends : (u : ℕ) → u < length graph.nodes → Leads program (node_number graph u) None
+      → HasEdge graph u (length graph.nodes)
   pub edges_differ : AllPairs (λ (e f : ℕ × ℕ). e ≢ f) graph.edges
   pub places : (n : ℕ) → n < length graph.nodes → HasPlace program (node_number graph n)
-  pub funcs : (n : ℕ) → n < length graph.nodes → slice_get graph.funcs n ≡ Some (function_at program (node_number graph n).path)
+  pub funcs : (n : ℕ) → n < length graph.nodes
+      → slice_get graph.funcs n ≡ Some (function_at program (node_number graph n).path)

@@ -46,5 +46,6 @@ GoesBack program (b ∷ path) goals = GoesAfter program b path goals
 -- listed is where a switch leads
 pub record GoesToTargets (goals : Goals) (path : List ℕ) (targets : List (ℕ × ℕ)) (others : ℕ) : Type 0 where
   pub path_is : goals.path.items ≡ path
-  pub blocks : (block : Option ℕ) → Contains goals.blocks.items block ↔ ((to : ℕ) × IsTarget targets others to × (block ≡ Some to))
+  pub blocks : (block : Option ℕ)
+      → Contains goals.blocks.items block ↔ ((to : ℕ) × IsTarget targets others to × (block ≡ Some to))
   pub ascends : AllPairs (λ (a b : Option ℕ). block_rank a < block_rank b) goals.blocks.items

@@ -1,4 +1,5 @@
--- How a search for nodes goes on: nodes that were found, in their order, and those of them that it has yet to go on from.
+-- How a search for nodes goes on: nodes that were found, in their order, and those of them that it has yet to go on
+-- from.
 --   IsGrown nodes pending New nodes' pending'   the nodes grew by the new ones, and the search has yet to go on from those that it did not have
 --   Overflows nodes New       these nodes and the new ones are more than a graph may have
 --   IsSearched program nodes pending   all nodes are kept, and where each leads is among them, if the search is not to go on from it
@@ -34,4 +35,5 @@ pub record IsSearched (program : NumberedProgram) (nodes pending : List Node) : 
   pub kept : All (IsKeptNode program) nodes
   pub waiting : All (IsKeptNode program) pending
   pub first : Contains nodes first_node
-  pub closed : (n : Node) → Contains nodes n → Contains pending n ⊎ ((next : Node) → Leads program n (Some next) → Contains nodes next)
+  pub closed : (n : Node) → Contains nodes n
+      → Contains pending n ⊎ ((next : Node) → Leads program n (Some next) → Contains nodes next)

@@ -37,7 +37,8 @@ node_name program node = path_name program node.path ++ (58 ∷ block_word node.
 -- the text is a name of a call path, as reports spell it
 pub data IsPathName : List ℕ → Type 0 where
   of_root : (name : List ℕ) → IsName name → IsPathName (quoted name)
-  of_call : (text name : List ℕ) (b : ℕ) → IsPathName text → b < 2 ^ 32 → IsName name → IsPathName (text ++ (46 ∷ (decimal b ++ quoted name)))
+  of_call : (text name : List ℕ) (b : ℕ) → IsPathName text → b < 2 ^ 32 → IsName name
+      → IsPathName (text ++ (46 ∷ (decimal b ++ quoted name)))
 
 -- the text is a name of a node, as reports spell it
 pub data IsNodeName : List ℕ → Type 0 where

@@ -29,25 +29,31 @@ stands (y ∷ ys) (suc k) h = stands ys k (omega arith)
 
 -- a function that is there, with its blocks
 module _ (program : NumberedProgram) (keeps : IsKept program) where
-  pub function_there : (f : ℕ) → f < length program.funcs → (function : NumberedFunction) × (slice_get program.funcs f ≡ Some function) × (blocks_at program f ≡ function.blocks)
+  pub function_there : (f : ℕ) → f < length program.funcs
+      → (function : NumberedFunction) × (slice_get program.funcs f ≡ Some function)
+      × (blocks_at program f ≡ function.blocks)
   function_there f low =
       let found = stands program.funcs f low in
       (found.0, found.1, ap (λ (o : Option NumberedFunction). option_map_or (λ (function : NumberedFunction). function.blocks) o []) found.1)
 
   -- the block that ends so
-  block_there : (f b : ℕ) (ending : BlockEnding) → ending_at program f b ≡ Some ending → (block : NumberedBlock) × (slice_get (blocks_at program f) b ≡ Some block) × (block.ending ≡ ending)
+  block_there : (f b : ℕ) (ending : BlockEnding) → ending_at program f b ≡ Some ending
+      → (block : NumberedBlock) × (slice_get (blocks_at program f) b ≡ Some block) × (block.ending ≡ ending)
   block_there f b ending e = by_option (slice_get (blocks_at program f) b) refl e where
-    by_option : (o : Option NumberedBlock) → slice_get (blocks_at program f) b ≡ o → option_map (λ (block : NumberedBlock). block.ending) o ≡ Some ending
+    by_option : (o : Option NumberedBlock) → slice_get (blocks_at program f) b ≡ o
+        → option_map (λ (block : NumberedBlock). block.ending) o ≡ Some ending
         → (block : NumberedBlock) × (slice_get (blocks_at program f) b ≡ Some block) × (block.ending ≡ ending)
     by_option None h e = absurd (cc)
     by_option (Some block) h e = (block, h, cc)
 
   -- it is a block of the function
-  pub ending_low : (f b : ℕ) (ending : BlockEnding) → ending_at program f b ≡ Some ending → b < length (blocks_at program f)
+  pub ending_low : (f b : ℕ) (ending : BlockEnding) → ending_at program f b ≡ Some ending
+      → b < length (blocks_at program f)
   ending_low f b ending e = let found = block_there f b ending e in below (blocks_at program f) b found.0 found.1
 
   -- the end of a block keeps the rules of checked programs
-  pub ending_keeps : (f b : ℕ) (ending : BlockEnding) → f < length program.funcs → ending_at program f b ≡ Some ending → KeepsEnding program f b ending
+  pub ending_keeps : (f b : ℕ) (ending : BlockEnding) → f < length program.funcs → ending_at program f b ≡ Some ending
+      → KeepsEnding program f b ending
   ending_keeps f b ending low e =
       let owner = function_there f low in
       let found = block_there f b ending e in
@@ -55,7 +61,8 @@ module _ (program : NumberedProgram) (keeps : IsKept program) where
       subst (λ (ending : BlockEnding). KeepsEnding program f b ending) found.2 (((keeps.functions f owner.0 owner.1).blocks b found.0 at).ending)
 
   -- the function that a call calls is there
-  pub callee_low : (f b callee : ℕ) (args : List NumberedExpression) (result : Option (ℕ × ℕ)) (next : ℕ) → f < length program.funcs → ending_at program f b ≡ Some (Call callee args result next)
+  pub callee_low : (f b callee : ℕ) (args : List NumberedExpression) (result : Option (ℕ × ℕ)) (next : ℕ)
+      → f < length program.funcs → ending_at program f b ≡ Some (Call callee args result next)
       → callee < length program.funcs
   callee_low f b callee args result next low e = let call = ending_keeps f b (Call callee args result next) low e in below program.funcs callee call.function call.at
 
@@ -74,12 +81,16 @@ module _ (program : NumberedProgram) (keeps : IsKept program) where
       subst (λ (blocks : List NumberedBlock). 0 < length blocks) (sym owner.2) ((keeps.functions f owner.0 owner.1).some)
 
   -- a block of the function at a call path
-  in_function : (path : List ℕ) → IsCallPath program path → (b : ℕ) → b < length (blocks_at program (function_at program path)) → (next : Node) → Some next ≡ Some (block_node path b) → IsPlaced program next
+  in_function : (path : List ℕ) → IsCallPath program path → (b : ℕ)
+      → b < length (blocks_at program (function_at program path)) → (next : Node) → Some next ≡ Some (block_node path b)
+      → IsPlaced program next
   in_function path calls b low next e =
       subst (λ (n : Node). IsPlaced program n) (sym (same_Some next (block_node path b) e)) (record { path = calls; function = path_low path calls; block = low })
 
   -- where a switch leads is a block of the function
-  target_low : (f b : ℕ) (value : NumberedExpression) (targets : List (ℕ × ℕ)) (others to : ℕ) → KeepsEnding program f b (Switch value targets others) → IsTarget targets others to → to < length (blocks_at program f)
+  target_low : (f b : ℕ) (value : NumberedExpression) (targets : List (ℕ × ℕ)) (others to : ℕ)
+      → KeepsEnding program f b (Switch value targets others) → IsTarget targets others to
+      → to < length (blocks_at program f)
   target_low f b value targets others to keep is = elim is [
     | inl e ↦ subst (λ (n : ℕ). n < length (blocks_at program f)) (sym e) keep.there
     | inr among ↦ let target = mapped (λ (target : ℕ × ℕ). target.1) targets to among in
@@ -87,7 +98,9 @@ module _ (program : NumberedProgram) (keeps : IsKept program) where
   ]
 
   -- where a return leads is placed
-  back_placed : (path : List ℕ) → IsCallPath program path → (b : ℕ) (ending : Option BlockEnding) → ending_at program (function_at program path) b ≡ ending → (next : Node) → BackLeads path ending (Some next) → IsPlaced program next
+  back_placed : (path : List ℕ) → IsCallPath program path → (b : ℕ) (ending : Option BlockEnding)
+      → ending_at program (function_at program path) b ≡ ending → (next : Node) → BackLeads path ending (Some next)
+      → IsPlaced program next
   back_placed path calls b None e next h = absurd h
   back_placed path calls b (Some (Fall after)) e next h = absurd h
   back_placed path calls b (Some (Jump to)) e next h = absurd h
@@ -96,12 +109,15 @@ module _ (program : NumberedProgram) (keeps : IsKept program) where
       in_function path calls after ((ending_keeps (function_at program path) b (Call f args result after) (path_low path calls) e).goes_on.there) next h
   back_placed path calls b (Some (Return value)) e next h = absurd h
 
-  return_placed : (path : List ℕ) → IsCallPath program path → (next : Node) → ReturnLeads program path (Some next) → IsPlaced program next
+  return_placed : (path : List ℕ) → IsCallPath program path → (next : Node) → ReturnLeads program path (Some next)
+      → IsPlaced program next
   return_placed [] calls next h = absurd (cc)
   return_placed (b ∷ path) calls next h = back_placed path calls.1 b (ending_at program (function_at program path) b) refl next h
 
   -- where a block leads is placed
-  end_placed : (path : List ℕ) → IsCallPath program path → (b : ℕ) (ending : Option BlockEnding) → ending_at program (function_at program path) b ≡ ending → (next : Node) → EndLeads program path b ending (Some next) → IsPlaced program next
+  end_placed : (path : List ℕ) → IsCallPath program path → (b : ℕ) (ending : Option BlockEnding)
+      → ending_at program (function_at program path) b ≡ ending → (next : Node)
+      → EndLeads program path b ending (Some next) → IsPlaced program next
   end_placed path calls b None e next h = absurd h
   end_placed path calls b (Some (Fall after)) e next h = in_function path calls after ((ending_keeps (function_at program path) b (Fall after) (path_low path calls) e).there) next h
   end_placed path calls b (Some (Jump to)) e next h = in_function path calls to (ending_keeps (function_at program path) b (Jump to) (path_low path calls) e) next h
@@ -114,7 +130,8 @@ module _ (program : NumberedProgram) (keeps : IsKept program) where
   end_placed path calls b (Some (Return value)) e next h = return_placed path calls next h
 
   -- where a placed node leads is placed
-  pub next_is_placed : (node next : Node) → IsPlaced program node → Leads program node (Some next) → IsPlaced program next
+  pub next_is_placed : (node next : Node) → IsPlaced program node → Leads program node (Some next)
+      → IsPlaced program next
   next_is_placed node next placed h = by_block node.block h where
     by_block : (block : Option ℕ) → PlaceLeads program node.path block (Some next) → IsPlaced program next
     by_block None h = in_function node.path placed.path 0 (first_block (function_at program node.path) placed.function) next h

@@ -40,7 +40,8 @@ fn add_edges(
     requires few { length places.now ≤ most_nodes }
     requires there { from < length places.now }
     requires listed { IsListed (IsDoneBefore (seen checked.now) (nodes_of places.now) from) edges.old.items }
-    ensures { OnOk result (IsListed (IsDoneBefore (seen checked.now) (nodes_of places.now) (from + 1)) edges.new.items) }
+    ensures { OnOk result
+        (IsListed (IsDoneBefore (seen checked.now) (nodes_of places.now) (from + 1)) edges.new.items) }
 {
     let Some(goals) = leads_from(alloc, checked, &places[from])? else {
         edges.push((from as u32, places.len() as u32))?;

@@ -1,6 +1,7 @@
 //! Where a node leads.
 
-ghost use Rattle.std.specs.Prelude.{◌≡◌, ◌<◌, ◌↔◌, ℕ, [], ◌∷◌, ◌++◌, length, reverse, Contains, AllPairs, IfOk, Some, None};
+ghost use Rattle.std.specs.Prelude.{◌≡◌, ◌<◌, ◌↔◌, ℕ, [], ◌∷◌, ◌++◌, length, reverse, Contains, AllPairs, IfOk, Some};
+ghost use Rattle.std.specs.Prelude.{None};
 ghost use Rattle.alf_check.specs.CheckedPrograms.{seen};
 ghost use Rattle.flow_graph.specs.Nodes.{IsKeptNode, IsTarget, callee_of, ending_at, function_at};
 ghost use Rattle.flow_graph.specs.Paths.{IsCallPath, IsCall, next_of};

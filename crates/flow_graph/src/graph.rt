@@ -71,7 +71,9 @@ impl Graph {
     /// there may be exponentially many in the depth of calls.
     pub fn expand(alloc: Global, checked: &Checked) -> Result<Graph, GraphFault>
         ensures graph { IfOk result (λ graph. IsGraph (seen checked.now) graph) }
-        ensures fault { IfErr result (λ fault. FaultTells fault (HasMoreNodes (seen checked.now) most_nodes) (HasMoreEdges (seen checked.now) most_edges)) }
+        ensures fault { IfErr result
+            (λ fault. FaultTells fault (HasMoreNodes (seen checked.now) most_nodes)
+            (HasMoreEdges (seen checked.now) most_edges)) }
     {
         checked.keeps();
         let places = kept_places(alloc, checked)?;
@@ -153,7 +155,8 @@ fn nth<T>(list: &[T], number: u32) -> &T
 // The functions of the nodes.
 fn functions_of(alloc: Global, checked: &Checked, places: &[Place]) -> Result<Vec<u32>, AllocError>
     requires { All (IsKeptNode (seen checked.now)) (nodes_of places.now) }
-    ensures { IfOk result (λ funcs. funcs.items ≡ map (λ place. function_at (seen checked.now) (reverse place.path.items)) places.now) }
+    ensures { IfOk result
+        (λ funcs. funcs.items ≡ map (λ place. function_at (seen checked.now) (reverse place.path.items)) places.now) }
 {
     checked.keeps();
     let mut funcs = Vec::new(alloc);
@@ -166,7 +169,9 @@ fn functions_of(alloc: Global, checked: &Checked, places: &[Place]) -> Result<Ve
 // The names of the nodes.
 fn names_of(alloc: Global, checked: &Checked, places: &[Place]) -> Result<Vec<Vec<u8>>, AllocError>
     requires { All (IsKeptNode (seen checked.now)) (nodes_of places.now) }
-    ensures { IfOk result (λ names. map (λ name. name.items) names.items ≡ map (λ place. node_name (seen checked.now) (node_of place)) places.now) }
+    ensures { IfOk result
+        (λ names. map (λ name. name.items) names.items
+        ≡ map (λ place. node_name (seen checked.now) (node_of place)) places.now) }
 {
     checked.keeps();
     let mut names = Vec::new(alloc);

@@ -50,8 +50,12 @@ fn go_on(
     requires ascends { AllPairs IsBefore (nodes_of places.old.items) }
     requires few { length places.old.items ≤ most_nodes }
     ensures grown { OnOk result (IsGrown (nodes_of places.old.items) (nodes_of pending.old.items)
-        (λ (n : Node). Leads (seen checked.now) (node_of place.now) (Some n)) (nodes_of places.new.items) (nodes_of pending.new.items)) }
-    ensures fault { IfErr result (λ fault. FaultTells fault (Overflows (nodes_of places.old.items) (λ (n : Node). Leads (seen checked.now) (node_of place.now) (Some n))) ⊥) }
+        (λ (n : Node). Leads (seen checked.now) (node_of place.now) (Some n)) (nodes_of places.new.items)
+        (nodes_of pending.new.items)) }
+    ensures fault { IfErr result
+        (λ fault. FaultTells fault
+        (Overflows (nodes_of places.old.items) (λ (n : Node). Leads (seen checked.now) (node_of place.now) (Some n)))
+        ⊥) }
 {
     match leads_from(alloc, checked, place)? {
         None => Ok(()),
@@ -70,7 +74,9 @@ fn add_all(
     requires few { length places.old.items ≤ most_nodes }
     ensures grown { OnOk result (IsGrown (nodes_of places.old.items) (nodes_of pending.old.items)
         (λ (n : Node). IsGoalIn (Some goals.now) (Some n)) (nodes_of places.new.items) (nodes_of pending.new.items)) }
-    ensures fault { IfErr result (λ fault. FaultTells fault (Overflows (nodes_of places.old.items) (λ (n : Node). IsGoalIn (Some goals.now) (Some n))) ⊥) }
+    ensures fault { IfErr result
+        (λ fault. FaultTells fault
+        (Overflows (nodes_of places.old.items) (λ (n : Node). IsGoalIn (Some goals.now) (Some n))) ⊥) }
 {
     for block in goals.blocks.iter() {
         add(alloc, places, pending, &goals.path, *block)?;
@@ -90,7 +96,9 @@ fn add(
     requires few { length places.old.items ≤ most_nodes }
     ensures grown { OnOk result (IsGrown (nodes_of places.old.items) (nodes_of pending.old.items)
         (λ (n : Node). n ≡ node_at path.now block) (nodes_of places.new.items) (nodes_of pending.new.items)) }
-    ensures fault { IfErr result (λ fault. FaultTells fault (Overflows (nodes_of places.old.items) (λ (n : Node). n ≡ node_at path.now block)) ⊥) }
+    ensures fault { IfErr result
+        (λ fault. FaultTells fault (Overflows (nodes_of places.old.items) (λ (n : Node). n ≡ node_at path.now block))
+        ⊥) }
 {
     match position(places, path, block) {
         Ok(_) => Ok(()),
@@ -109,8 +117,10 @@ fn put(
     at: usize,
 ) -> Result<(), AllocError>
     requires { at ≤ length places.old.items }
-    ensures places { OnOk result (nodes_of places.new.items ≡ insert (nodes_of places.old.items) at (node_at path.now block)) }
-    ensures pending { OnOk result (nodes_of pending.new.items ≡ nodes_of pending.old.items ++ node_at path.now block ∷ []) }
+    ensures places { OnOk result
+        (nodes_of places.new.items ≡ insert (nodes_of places.old.items) at (node_at path.now block)) }
+    ensures pending { OnOk result
+        (nodes_of pending.new.items ≡ nodes_of pending.old.items ++ node_at path.now block ∷ []) }
 {
     let found = path.to_vec(alloc)?;
     places.insert(at, Place { path: found, block })?;

@@ -30,7 +30,8 @@ pub fn first_edges(alloc: Global, graph: &Graph) -> Result<Vec<u32>, AllocError>
 pub fn next_node(graph: &Graph, firsts: &[u32], node: u32, block: Option<u32>) -> u32
     requires firsts { AreFirstEdges graph.now firsts.now }
     requires node { node < length graph.now.nodes }
-    ensures { (goal : Node) → HasEdge graph.now node goal → goal.block ≡ block → slice_get graph.now.nodes result ≡ Some goal }
+    ensures { (goal : Node) → HasEdge graph.now node goal → goal.block ≡ block
+        → slice_get graph.now.nodes result ≡ Some goal }
 {
     graph.keeps();
     for edge in firsts[node as usize]..graph.edge_count() {
@@ -53,7 +54,8 @@ fn has_block(graph: &Graph, node: u32, block: Option<u32>) -> bool
 pub fn next_func(graph: &Graph, firsts: &[u32], node: u32) -> u32
     requires firsts { AreFirstEdges graph.now firsts.now }
     requires node { node < length graph.now.nodes }
-    ensures { (program : NumberedProgram) (goal : Node) → IsGraph program graph.now → HasEdge graph.now node goal → result ≡ function_at program goal.path }
+    ensures { (program : NumberedProgram) (goal : Node) → IsGraph program graph.now → HasEdge graph.now node goal
+        → result ≡ function_at program goal.path }
 {
     let edge = firsts[node as usize];
     if edge < graph.edge_count() {

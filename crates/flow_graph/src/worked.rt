@@ -8,8 +8,10 @@ ghost use Rattle.flow_graph.specs.Worked.{one_call};
 /// A node is named by the root, then for each call by its block and the called function, and last by the entry or
 /// the block.
 pub fn nodes_are_named_by_their_calls()
-    ensures root { node_name one_call (entry_node []) ≡ 34 ∷ 109 ∷ 97 ∷ 105 ∷ 110 ∷ 34 ∷ 58 ∷ 101 ∷ 110 ∷ 116 ∷ 114 ∷ 121 ∷ [] }
-    ensures called { node_name one_call (block_node (0 ∷ []) 12) ≡ 34 ∷ 109 ∷ 97 ∷ 105 ∷ 110 ∷ 34 ∷ 46 ∷ 48 ∷ 34 ∷ 102 ∷ 34 ∷ 58 ∷ 49 ∷ 50 ∷ [] }
+    ensures root { node_name one_call (entry_node [])
+        ≡ 34 ∷ 109 ∷ 97 ∷ 105 ∷ 110 ∷ 34 ∷ 58 ∷ 101 ∷ 110 ∷ 116 ∷ 114 ∷ 121 ∷ [] }
+    ensures called { node_name one_call (block_node (0 ∷ []) 12)
+        ≡ 34 ∷ 109 ∷ 97 ∷ 105 ∷ 110 ∷ 34 ∷ 46 ∷ 48 ∷ 34 ∷ 102 ∷ 34 ∷ 58 ∷ 49 ∷ 50 ∷ [] }
 {}
 
 /// An entry leads to block 0, a call to the entry of the called function, a return to the block after the call,

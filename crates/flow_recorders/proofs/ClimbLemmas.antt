@@ -14,13 +14,16 @@ either_test true b found first second = first refl
 either_test false b found first second = second found
 
 -- parents lead to what stands on a walk up
-pub leads_any : (scopes : List ScopeRow) (k s t : ℕ) → list_any (λ n. t == n) (scopes_from scopes k s) ≡ true → LeadsTo scopes t s
+pub leads_any : (scopes : List ScopeRow) (k s t : ℕ) → list_any (λ n. t == n) (scopes_from scopes k s) ≡ true
+    → LeadsTo scopes t s
 leads_any scopes zero s t found = absurd (let bad : false ≡ true = found in cc)
 leads_any scopes (suc k) s t found =
     either_test (t == s) (list_any (λ n. t == n) (option_map_or (λ p. scopes_from scopes k p) (parent_of scopes s) [])) found
     (λ same. subst (λ (n : ℕ). LeadsTo scopes n s) (sym (eqb-true t s same)) here)
     (λ above. by_parent (λ p there. leads_any scopes k p t there) (parent_of scopes s) refl above)
   where
-    by_parent : ((p : ℕ) → list_any (λ n. t == n) (scopes_from scopes k p) ≡ true → LeadsTo scopes t p) → (parent : Option ℕ) → parent_of scopes s ≡ parent → list_any (λ n. t == n) (option_map_or (λ p. scopes_from scopes k p) parent []) ≡ true → LeadsTo scopes t s
+    by_parent : ((p : ℕ) → list_any (λ n. t == n) (scopes_from scopes k p) ≡ true → LeadsTo scopes t p)
+        → (parent : Option ℕ) → parent_of scopes s ≡ parent
+        → list_any (λ n. t == n) (option_map_or (λ p. scopes_from scopes k p) parent []) ≡ true → LeadsTo scopes t s
     by_parent further None is above = absurd (let bad : false ≡ true = above in cc)
     by_parent further (Some p) is above = up is (further p above)

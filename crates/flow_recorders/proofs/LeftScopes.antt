@@ -18,14 +18,17 @@ use Rattle.flow_recorders.proofs.ClimbLemmas.{either_test, leads_any}
 use Rattle.flow_recorders.specs.ClimbLaws.{own_at, own_low, from_last, from_more, any_joined}
 
 -- among more, what was not there is the new one
-pub out_more : (o : Shape) (to : ℕ) (left : List ℕ) (s : ℕ) → (Holds o s to → ⊥) → IsOutline o → ((t : ℕ) → list_any (λ n. t == n) left ≡ true → is_held o t to ≡ false) → (t : ℕ) → list_any (λ n. t == n) (left ++ s ∷ []) ≡ true → is_held o t to ≡ false
+pub out_more : (o : Shape) (to : ℕ) (left : List ℕ) (s : ℕ) → (Holds o s to → ⊥) → IsOutline o
+    → ((t : ℕ) → list_any (λ n. t == n) left ≡ true → is_held o t to ≡ false) → (t : ℕ)
+    → list_any (λ n. t == n) (left ++ s ∷ []) ≡ true → is_held o t to ≡ false
 out_more o to left s out ok so_far t found =
     either_test (list_any (λ n. t == n) left) (list_any (λ n. t == n) (s ∷ [])) (sym (any_joined t left (s ∷ [])) ∙ found)
     (so_far t)
     (λ last. either_test (t == s) false last (λ same. by_test (is_held o t to) (λ held. absurd (out (held_is o ok s to (subst (λ (n : ℕ). is_held o n to ≡ true) (eqb-true t s same) held)))) (λ clear. clear)) (λ bad. absurd (let e : false ≡ true = bad in cc)))
 
 -- what is held at first and not at last, by the list of what is left
-left_test : (held stays found : Bool) → (found ≡ true → stays ≡ false) → (found ≡ true → held ≡ true) → (found ≡ false → held ≡ true → stays ≡ true) → found ≡ (held && not stays)
+left_test : (held stays found : Bool) → (found ≡ true → stays ≡ false) → (found ≡ true → held ≡ true)
+    → (found ≡ false → held ≡ true → stays ≡ true) → found ≡ (held && not stays)
 left_test true true true out first rest = absurd (let bad : true ≡ false = out refl in cc)
 left_test true true false out first rest = refl
 left_test true false true out first rest = refl
@@ -41,11 +44,13 @@ module _ (o : Shape) (ok : IsOutline o) (from to : ℕ) (left above : List ℕ) 
   first_among : (t : ℕ) → list_any (λ n. t == n) left ≡ true → is_held o t from ≡ true
   first_among t found = among t ∙ ap (λ (b : Bool). b || list_any (λ n. t == n) above) found
 
-  above_among : (t : ℕ) → list_any (λ n. t == n) left ≡ false → is_held o t from ≡ true → list_any (λ n. t == n) above ≡ true
+  above_among : (t : ℕ) → list_any (λ n. t == n) left ≡ false → is_held o t from ≡ true
+      → list_any (λ n. t == n) above ≡ true
   above_among t clear held = sym (among t ∙ ap (λ (b : Bool). b || list_any (λ n. t == n) above) clear) ∙ held
 
   -- where the rest is a walk up from a scope that holds the target
-  pub left_stays : (k s : ℕ) → above ≡ scopes_from o.scopes k s → Holds o s to → (t : ℕ) → list_any (λ n. t == n) left ≡ is_left o t from to
+  pub left_stays : (k s : ℕ) → above ≡ scopes_from o.scopes k s → Holds o s to → (t : ℕ)
+      → list_any (λ n. t == n) left ≡ is_left o t from to
   left_stays k s is stays t =
       left_test (is_held o t from) (is_held o t to) (list_any (λ n. t == n) left) (out t) (first_among t)
       (λ clear held. is_holder o ok t to (leads_on o.scopes s t (get_or o.own to 0) stays (leads_any o.scopes k s t (ap (λ (xs : List ℕ). list_any (λ n. t == n) xs) (sym is) ∙ above_among t clear held))))
@@ -60,7 +65,8 @@ module _ (o : Shape) (ok : IsOutline o) (from to : ℕ) (left above : List ℕ) 
 
 module _ (o : Outlined) (ok : IsOutline (shape_of o)) (from to : ℕ) where
   -- at the beginning
-  pub begin_low : (row : NodeRow) → from < length o.nodes → slice_get o.nodes from ≡ Some row → row.scope < length o.scopes
+  pub begin_low : (row : NodeRow) → from < length o.nodes → slice_get o.nodes from ≡ Some row
+      → row.scope < length o.scopes
   begin_low row low is = subst (λ (s : ℕ). s < length o.scopes) (own_at o.nodes from row is) (ok.scopes_within from (own_low o from low))
 
   pub begin_whole : (row : NodeRow) (left : List ℕ) → slice_get o.nodes from ≡ Some row → left ≡ []
@@ -70,7 +76,8 @@ module _ (o : Outlined) (ok : IsOutline (shape_of o)) (from to : ℕ) where
       ∙ ap (λ (k : ℕ). scopes_from o.scopes k row.scope) (let e : length o.scopes - 0 ≡ length o.scopes = omega arith in e)
       ∙ ap (λ (s : ℕ). scopes_from o.scopes (length o.scopes) s) (sym (own_at o.nodes from row is))
 
-  pub begin_out : (left : List ℕ) → left ≡ [] → (t : ℕ) → list_any (λ n. t == n) left ≡ true → is_held (shape_of o) t to ≡ false
+  pub begin_out : (left : List ℕ) → left ≡ [] → (t : ℕ) → list_any (λ n. t == n) left ≡ true
+      → is_held (shape_of o) t to ≡ false
   begin_out left none t found = absurd (let bad : false ≡ true = ap (λ (xs : List ℕ). list_any (λ n. t == n) xs) (sym none) ∙ found in cc)
 
   -- one scope further
@@ -87,10 +94,12 @@ module _ (o : Outlined) (ok : IsOutline (shape_of o)) (from to : ℕ) where
     pub at_holder : Holds (shape_of o) s to → (t : ℕ) → list_any (λ n. t == n) left ≡ is_left (shape_of o) t from to
     at_holder stays = left_stays (shape_of o) ok from to left (scopes_from o.scopes (length o.scopes - step) s) whole out (length o.scopes - step) s refl stays
 
-    pub out_pushed : (pushed : List ℕ) → pushed ≡ left ++ s ∷ [] → (Holds (shape_of o) s to → ⊥) → (t : ℕ) → list_any (λ n. t == n) pushed ≡ true → is_held (shape_of o) t to ≡ false
+    pub out_pushed : (pushed : List ℕ) → pushed ≡ left ++ s ∷ [] → (Holds (shape_of o) s to → ⊥) → (t : ℕ)
+        → list_any (λ n. t == n) pushed ≡ true → is_held (shape_of o) t to ≡ false
     out_pushed pushed is gone t found = out_more (shape_of o) to left s gone ok out t (ap (λ (xs : List ℕ). list_any (λ n. t == n) xs) (sym is) ∙ found)
 
-    pub at_top : (pushed : List ℕ) → pushed ≡ left ++ s ∷ [] → (Holds (shape_of o) s to → ⊥) → step < length o.scopes → parent_of o.scopes s ≡ None → (t : ℕ) → list_any (λ n. t == n) pushed ≡ is_left (shape_of o) t from to
+    pub at_top : (pushed : List ℕ) → pushed ≡ left ++ s ∷ [] → (Holds (shape_of o) s to → ⊥) → step < length o.scopes
+        → parent_of o.scopes s ≡ None → (t : ℕ) → list_any (λ n. t == n) pushed ≡ is_left (shape_of o) t from to
     at_top pushed is gone low none =
         left_whole (shape_of o) ok from to pushed []
         (append-nil pushed ∙ is ∙ ap (λ (xs : List ℕ). left ++ xs) (sym (from_last o.scopes (length o.scopes - step) (length o.scopes - (step + 1)) s (omega arith) none)) ∙ whole)

@@ -18,7 +18,8 @@ use Rattle.flow_recorders.specs.ClimbLaws.{any_joined}
 use Rattle.flow_recorders.proofs.LeftScopes.{at_holder}
 
 -- a scope around another has no longer a chain
-chains_fall : (scopes : List ScopeRow) (t s : ℕ) (c d : List ℕ) → LeadsTo scopes t s → IsChain scopes s c → IsChain scopes t d → length d ≤ length c
+chains_fall : (scopes : List ScopeRow) (t s : ℕ) (c d : List ℕ) → LeadsTo scopes t s → IsChain scopes s c
+    → IsChain scopes t d → length d ≤ length c
 chains_fall scopes t s c d here of_s of_t = let same : length d ≡ length c = ap (λ (xs : List ℕ). length xs) (chain_one scopes t d c of_t of_s) in omega arith
 chains_fall scopes t s c d (up {s = x} {p = p} e way) (outermost {s = y} top) of_t = absurd (let both : Some p ≡ None = sym e ∙ top in cc)
 chains_fall scopes t s c d (up {s = x} {p = p} e way) (inner {s = y} {p = q} {chain = rest} f more) of_t =
@@ -27,7 +28,8 @@ chains_fall scopes t s c d (up {s = x} {p = p} e way) (inner {s = y} {p = q} {ch
     omega arith
 
 -- parents lead from a scope to itself, or on from its parent
-by_parents : {A : Type 0} (scopes : List ScopeRow) (t s : ℕ) → LeadsTo scopes t s → (t ≡ s → A) → ((p : ℕ) → parent_of scopes s ≡ Some p → LeadsTo scopes t p → A) → A
+by_parents : {A : Type 0} (scopes : List ScopeRow) (t s : ℕ) → LeadsTo scopes t s → (t ≡ s → A)
+    → ((p : ℕ) → parent_of scopes s ≡ Some p → LeadsTo scopes t p → A) → A
 by_parents scopes t s here at_once further = at_once refl
 by_parents scopes t s (up {s = x} {p = p} e way) at_once further = further p e way
 
@@ -56,7 +58,8 @@ module _ (o : Shape) (ok : IsOutline o) where
         by_parent (Some p) e same = subst (λ (n : ℕ). LeadsTo o.scopes n own) (eqb-true p s same) (up e here)
 
     -- what is not near, and lies below what is, does not hold the own scope
-    far_holds_not : (s t : ℕ) → near own around s ≡ true → near own around t ≡ false → LeadsTo o.scopes s t → LeadsTo o.scopes t own → ⊥
+    far_holds_not : (s t : ℕ) → near own around s ≡ true → near own around t ≡ false → LeadsTo o.scopes s t
+        → LeadsTo o.scopes t own → ⊥
     far_holds_not s t is far between held =
         by_parents o.scopes t own held
         (λ same. let bad : true ≡ false = sym (ap (λ (b : Bool). b || is_at around t) (eq-eqb own t (sym same))) ∙ far in cc)
@@ -87,16 +90,19 @@ module _ (o : Outlined) (ok : IsOutline (shape_of o)) (from to own : ℕ) (aroun
 
   -- one scope further
   module _ (pushed : List ℕ) (more : pushed ≡ left ++ s ∷ []) where
-    among_pushed : {A : Type 0} (t : ℕ) → list_any (λ n. t == n) pushed ≡ true → (list_any (λ n. t == n) left ≡ true → A) → (t ≡ s → A) → A
+    among_pushed : {A : Type 0} (t : ℕ) → list_any (λ n. t == n) pushed ≡ true
+        → (list_any (λ n. t == n) left ≡ true → A) → (t ≡ s → A) → A
     among_pushed t found earlier last =
         either_test (list_any (λ n. t == n) left) (list_any (λ n. t == n) (s ∷ [])) (sym (any_joined t left (s ∷ [])) ∙ sym (ap (λ (xs : List ℕ). list_any (λ n. t == n) xs) more) ∙ found)
         earlier
         (λ one. either_test (t == s) false one (λ same. last (eqb-true t s same)) (λ bad. absurd (let e : false ≡ true = bad in cc)))
 
-    pub apart_pushed : ((t : ℕ) → list_any (λ n. t == n) left ≡ true → near own around t ≡ false) → near own around s ≡ false → (t : ℕ) → list_any (λ n. t == n) pushed ≡ true → near own around t ≡ false
+    pub apart_pushed : ((t : ℕ) → list_any (λ n. t == n) left ≡ true → near own around t ≡ false)
+        → near own around s ≡ false → (t : ℕ) → list_any (λ n. t == n) pushed ≡ true → near own around t ≡ false
     apart_pushed apart far t found = among_pushed t found (apart t) (λ same. ap (λ (n : ℕ). near own around n) same ∙ far)
 
-    pub below_pushed : ((t : ℕ) → list_any (λ n. t == n) left ≡ true → LeadsTo o.scopes s t) → (p : ℕ) → parent_of o.scopes s ≡ Some p → (t : ℕ) → list_any (λ n. t == n) pushed ≡ true → LeadsTo o.scopes p t
+    pub below_pushed : ((t : ℕ) → list_any (λ n. t == n) left ≡ true → LeadsTo o.scopes s t) → (p : ℕ)
+        → parent_of o.scopes s ≡ Some p → (t : ℕ) → list_any (λ n. t == n) pushed ≡ true → LeadsTo o.scopes p t
     below_pushed below p is t found =
         among_pushed t found (λ earlier. leads_on o.scopes s p t (below t earlier) (up is here))
         (λ same. subst (λ (n : ℕ). LeadsTo o.scopes p n) (sym same) (up is here))

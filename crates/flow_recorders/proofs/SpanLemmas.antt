@@ -30,12 +30,14 @@ pub zeros_only : (xs : List ℕ) (n : ℕ) → xs ≡ replicate n 0 → map only
 zeros_only xs n zeros = ap (λ (ys : List ℕ). map only ys) zeros ∙ only_replicate n 0
 
 -- so many spans of 0 are those of the numbers
-pub zeros_kept : (n : ℕ) (xs read : List ℕ) → n ≡ length read → read ≡ xs → read ≡ replicate (length read) 0 → replicate n (0, 0) ≡ map only xs
+pub zeros_kept : (n : ℕ) (xs read : List ℕ) → n ≡ length read → read ≡ xs → read ≡ replicate (length read) 0
+    → replicate n (0, 0) ≡ map only xs
 zeros_kept n xs read count is zeros =
     ap (λ (m : ℕ). replicate {A = ℕ × ℕ} m (0, 0)) count ∙ sym (zeros_only read (length read) zeros) ∙ ap (λ (ys : List ℕ). map only ys) is
 
 -- two lists of spans of 0 are the same
-pub zeros_same : (n : ℕ) (xs read : List ℕ) (a b : List (ℕ × ℕ)) → replicate n (0, 0) ≡ a → map only xs ≡ b → length a ≡ length b → read ≡ xs → read ≡ replicate (length read) 0 → a ≡ b
+pub zeros_same : (n : ℕ) (xs read : List ℕ) (a b : List (ℕ × ℕ)) → replicate n (0, 0) ≡ a → map only xs ≡ b
+    → length a ≡ length b → read ≡ xs → read ≡ replicate (length read) 0 → a ≡ b
 zeros_same n xs read a b is_a is_b long is zeros = sym is_a ∙ zeros_kept n xs read count is zeros ∙ is_b
   where
     count : n ≡ length read
@@ -48,7 +50,8 @@ zeros_set (suc n) zero = refl
 zeros_set (suc n) (suc i) = ap (λ (xs : List (ℕ × ℕ)). (0, 0) ∷ xs) (zeros_set n i)
 
 -- numbers that are all 0, but for one that is 1
-pub once_visited : (xs : List ℕ) (n i : ℕ) → xs ≡ replicate n 0 → map only (set xs i 1) ≡ set (replicate n (0, 0)) i (1, 1)
+pub once_visited : (xs : List ℕ) (n i : ℕ) → xs ≡ replicate n 0
+    → map only (set xs i 1) ≡ set (replicate n (0, 0)) i (1, 1)
 once_visited xs n i zeros = only_set xs i 1 ∙ ap (λ (ys : List (ℕ × ℕ)). set ys i (1, 1)) (zeros_only xs n zeros)
 
 -- a list joined with itself
@@ -61,7 +64,8 @@ same_joined a b same =
     itself s = ap (λ (l : ℕ). (l, s.1)) (omega arith) ∙ ap (λ (m : ℕ). ((span_of s s).0, m)) (omega arith)
 
 -- a span that was read, in the list
-read_at : {X : Type 0} (xs ys : List X) (i : ℕ) (x d : X) → xs ≡ ys → i < length ys → x ≡ get_or xs i x → x ≡ get_or ys i d
+read_at : {X : Type 0} (xs ys : List X) (i : ℕ) (x d : X) → xs ≡ ys → i < length ys → x ≡ get_or xs i x
+    → x ≡ get_or ys i d
 read_at xs ys i x d same low read = get_or_read xs i x (subst (λ zs. i < length zs) (sym same) low) read d ∙ ap (λ zs. get_or zs i d) same
 
 module _ (spans : List (ℕ × ℕ)) (i : ℕ) (low : i < length spans) where
@@ -70,30 +74,37 @@ module _ (spans : List (ℕ × ℕ)) (i : ℕ) (low : i < length spans) where
   only_read xs c is read = read_at (map only xs) spans i (only c) (0, 0) is low (ap only read ∙ sym (get_or-map only xs i c))
 
   -- there is room for one more
-  pub room_only : (xs : List ℕ) (c : ℕ) → map only xs ≡ spans → c ≡ get_or xs i c → (span_at spans i).0 < 2 ^ 32 - 1 → c + 1 < 2 ^ 32
+  pub room_only : (xs : List ℕ) (c : ℕ) → map only xs ≡ spans → c ≡ get_or xs i c → (span_at spans i).0 < 2 ^ 32 - 1
+      → c + 1 < 2 ^ 32
   room_only xs c is read most = let same = ap (λ (s : ℕ × ℕ). s.0) (only_read xs c is read) in omega arith
 
-  pub room_least : (xs : List (ℕ × ℕ)) (s : ℕ × ℕ) → xs ≡ spans → s ≡ get_or xs i s → (span_at spans i).0 < 2 ^ 32 - 1 → s.0 + 1 < 2 ^ 32
+  pub room_least : (xs : List (ℕ × ℕ)) (s : ℕ × ℕ) → xs ≡ spans → s ≡ get_or xs i s → (span_at spans i).0 < 2 ^ 32 - 1
+      → s.0 + 1 < 2 ^ 32
   room_least xs s is read most = let same = ap (λ (t : ℕ × ℕ). t.0) (read_at xs spans i s (0, 0) is low read) in omega arith
 
-  pub room_most : (xs : List (ℕ × ℕ)) (s : ℕ × ℕ) → xs ≡ spans → s ≡ get_or xs i s → (span_at spans i).1 < 2 ^ 32 - 1 → s.1 + 1 < 2 ^ 32
+  pub room_most : (xs : List (ℕ × ℕ)) (s : ℕ × ℕ) → xs ≡ spans → s ≡ get_or xs i s → (span_at spans i).1 < 2 ^ 32 - 1
+      → s.1 + 1 < 2 ^ 32
   room_most xs s is read most = let same = ap (λ (t : ℕ × ℕ). t.1) (read_at xs spans i s (0, 0) is low read) in omega arith
 
   -- one more at a place
-  pub visited_only : (xs : List ℕ) (c : ℕ) → map only xs ≡ spans → c ≡ get_or xs i c → map only (set xs i (c + 1)) ≡ set spans i (one_more (span_at spans i))
+  pub visited_only : (xs : List ℕ) (c : ℕ) → map only xs ≡ spans → c ≡ get_or xs i c
+      → map only (set xs i (c + 1)) ≡ set spans i (one_more (span_at spans i))
   visited_only xs c is read = only_set xs i (c + 1) ∙ ap (λ (ys : List (ℕ × ℕ)). set ys i (only (c + 1))) is ∙ ap (λ (s : ℕ × ℕ). set spans i (one_more s)) (only_read xs c is read)
 
-  pub visited_small : (xs read : List ℕ) (c : ℕ) → map only xs ≡ spans → read ≡ xs → c ≡ get_or read i 0 + 1 → map only (set xs i c) ≡ set spans i (one_more (span_at spans i))
+  pub visited_small : (xs read : List ℕ) (c : ℕ) → map only xs ≡ spans → read ≡ xs → c ≡ get_or read i 0 + 1
+      → map only (set xs i c) ≡ set spans i (one_more (span_at spans i))
   visited_small xs read c is same more =
       ap (λ (n : ℕ). map only (set xs i n)) (more ∙ ap (λ (zs : List ℕ). get_or zs i 0 + 1) same)
       ∙ only_set xs i (get_or xs i 0 + 1) ∙ ap (λ (zs : List (ℕ × ℕ)). set zs i (only (get_or xs i 0 + 1))) is
       ∙ ap (λ (s : ℕ × ℕ). set spans i (one_more s)) (sym (get_or-map only xs i 0) ∙ ap (λ (zs : List (ℕ × ℕ)). get_or zs i (0, 0)) is)
 
-  pub visited_apart : (xs : List (ℕ × ℕ)) (s : ℕ × ℕ) → xs ≡ spans → s ≡ get_or xs i s → set xs i (one_more s) ≡ set spans i (one_more (span_at spans i))
+  pub visited_apart : (xs : List (ℕ × ℕ)) (s : ℕ × ℕ) → xs ≡ spans → s ≡ get_or xs i s
+      → set xs i (one_more s) ≡ set spans i (one_more (span_at spans i))
   visited_apart xs s is read = ap (λ (ys : List (ℕ × ℕ)). set ys i (one_more s)) is ∙ ap (λ (t : ℕ × ℕ). set spans i (one_more t)) (read_at xs spans i s (0, 0) is low read)
 
 -- where the greatest number is no limit, there is room for one more at each place
-pub room_for_more : (kept spans : List (ℕ × ℕ)) (i : ℕ) → kept ≡ spans → i < length spans → greatest spans < 2 ^ 32 - 1 → ((span_at kept i).0 < 2 ^ 32 - 1) × ((span_at kept i).1 < 2 ^ 32 - 1)
+pub room_for_more : (kept spans : List (ℕ × ℕ)) (i : ℕ) → kept ≡ spans → i < length spans → greatest spans < 2 ^ 32 - 1
+    → ((span_at kept i).0 < 2 ^ 32 - 1) × ((span_at kept i).1 < 2 ^ 32 - 1)
 room_for_more kept spans i is low most =
     subst (λ (xs : List (ℕ × ℕ)). ((span_at xs i).0 < 2 ^ 32 - 1) × ((span_at xs i).1 < 2 ^ 32 - 1)) (sym is)
     (let below = below_greatest spans i low in let p = below.0 in let q = below.1 in (omega arith, omega arith))

@@ -21,7 +21,8 @@ none_at [] = refl
 none_at (k ∷ ks) = none_at ks
 
 -- the scopes that are left, at a key
-pub any_left : (o : Shape) (n k : ℕ) (left : List ℕ) → ((t : ℕ) → list_any (λ s. t == s) left ≡ is_left o t n k) → (key : Option ℕ) → list_any (λ s. is_at key s) left ≡ leaves o key n k
+pub any_left : (o : Shape) (n k : ℕ) (left : List ℕ) → ((t : ℕ) → list_any (λ s. t == s) left ≡ is_left o t n k)
+    → (key : Option ℕ) → list_any (λ s. is_at key s) left ≡ leaves o key n k
 any_left o n k left is None = none_at left
 any_left o n k left is (Some t) = is t
 
@@ -31,12 +32,14 @@ any_turned t xs =
     (λ clear. by_test (list_any (λ s. t == s) (reverse xs)) (λ found. absurd (let bad : true ≡ false = sym (member_found xs t (of_reverse xs t (found_member (reverse xs) t found))) ∙ clear in cc)) (λ none. none ∙ sym clear))
 
 -- the scopes around a node, at a key
-pub any_around : (o : Shape) (n : ℕ) (around : List ℕ) → around ≡ scopes_around o n → (key : Option ℕ) → list_any (λ s. is_at key s) around ≡ is_within o key n
+pub any_around : (o : Shape) (n : ℕ) (around : List ℕ) → around ≡ scopes_around o n → (key : Option ℕ)
+    → list_any (λ s. is_at key s) around ≡ is_within o key n
 any_around o n around is None = none_at around
 any_around o n around is (Some t) = ap (λ (xs : List ℕ). list_any (λ s. t == s) xs) is ∙ any_turned t (scopes_from o.scopes (length o.scopes) (get_or o.own n 0))
 
 -- what begins anew has no greater numbers
-pub reset_greatest : (r mid : List (ℕ × ℕ)) (anew : ℕ → Bool) → length mid ≡ length r → ((j : ℕ) → j < length r → span_at mid j ≡ cond (anew j) (0, 0) (span_at r j)) → greatest mid ≤ greatest r
+pub reset_greatest : (r mid : List (ℕ × ℕ)) (anew : ℕ → Bool) → length mid ≡ length r
+    → ((j : ℕ) → j < length r → span_at mid j ≡ cond (anew j) (0, 0) (span_at r j)) → greatest mid ≤ greatest r
 reset_greatest r mid anew same each = greatest_least mid (greatest r) (λ j low.
     let within : j < length r = omega arith in
     let below = below_greatest r j within in
@@ -63,14 +66,17 @@ module _ (o : Shape) (v : Tally) (r : List (ℕ × ℕ)) (n k : ℕ) (left : Lis
       collected_is j low ∙ ap (λ (t : Bool). spread_after t (spread_at b j) (span_at r j)) (any_left o n k left is (key_at v.scopes j)))
 
 -- the book at the end of a run
-pub ended_is : (o : Shape) (v : Tally) (r : List (ℕ × ℕ)) (n : ℕ) (around : List ℕ) → around ≡ scopes_around o n → (b new : List (Option (ℕ × ℕ))) → length new ≡ length b
+pub ended_is : (o : Shape) (v : Tally) (r : List (ℕ × ℕ)) (n : ℕ) (around : List ℕ) → around ≡ scopes_around o n
+    → (b new : List (Option (ℕ × ℕ))) → length new ≡ length b
     → ((j : ℕ) → j < length b → spread_at new j ≡ spread_after (list_any (λ s. is_at (key_at v.scopes j) s) around) (spread_at b j) (span_at r j)) → new ≡ spreads_ended o v r b n
 ended_is o v r n around is b new same collected_is =
     generated_is (length b) (λ i. spread_after (is_within o (key_at v.scopes i) n) (spread_at b i) (span_at r i)) new None same (λ j low.
     collected_is j low ∙ ap (λ (t : Bool). spread_after t (spread_at b j) (span_at r j)) (any_around o n around is (key_at v.scopes j)))
 
 -- a book of an outline is one of its counts
-pub ledger_of : (w : Tally) (b seen : Ledger) (r spans : List (ℕ × ℕ)) → length w.scopes ≡ length w.nodes → b ≡ seen → spans ≡ r → (seen.tally ≡ w) × (length seen.spreads ≡ length w.scopes) → length r ≡ length w.scopes → IsLedger b (length spans)
+pub ledger_of : (w : Tally) (b seen : Ledger) (r spans : List (ℕ × ℕ)) → length w.scopes ≡ length w.nodes → b ≡ seen
+    → spans ≡ r → (seen.tally ≡ w) × (length seen.spreads ≡ length w.scopes) → length r ≡ length w.scopes
+    → IsLedger b (length spans)
 ledger_of w b seen r spans both is same of_w len =
     subst (λ (z : Ledger). IsLedger z (length spans)) (sym is) (record {
       scopes = ap (λ (v : Tally). length v.scopes) of_w.0 ∙ sym len ∙ ap (λ (xs : List (ℕ × ℕ)). length xs) (sym same);

@@ -21,7 +21,8 @@ module _ {A : Type 0} (keys : List (Option ℕ)) (k : ℕ) (f : ℕ → A) (d : 
     here = λ low. next.has (omega arith);
   }
 
-  pub walked_next : (new : List A) (i n : ℕ) (v : A) → i < length old → v ≡ f i → IsNext keys k (i + 1) n → IsWalked keys k f d old new i → IsWalked keys k f d old (set new i v) n
+  pub walked_next : (new : List A) (i n : ℕ) (v : A) → i < length old → v ≡ f i → IsNext keys k (i + 1) n
+      → IsWalked keys k f d old new i → IsWalked keys k f d old (set new i v) n
   walked_next new i n v low is next so_far = record {
     same_length = length-set new i v ∙ so_far.same_length;
     done = λ j below within. elim (same_or_not j i) [
@@ -33,14 +34,16 @@ module _ {A : Type 0} (keys : List (Option ℕ)) (k : ℕ) (f : ℕ → A) (d : 
     here = λ within. next.has (omega arith);
   }
     where
-      before : (j : ℕ) → j ≢ i → j < n → j < length old → get_or new j d ≡ cond (is_at (key_at keys j) k) (f j) (get_or old j d)
+      before : (j : ℕ) → j ≢ i → j < n → j < length old
+          → get_or new j d ≡ cond (is_at (key_at keys j) k) (f j) (get_or old j d)
       before j apart below within =
           elim (low_or_over j i) [
             | inl earlier ↦ so_far.done j earlier within
             | inr over ↦ so_far.rest j over ∙ ap (λ (b : Bool). cond b (f j) (get_or old j d)) (sym (next.none j (omega arith) below))
           ]
 
-  pub walked_all : (new : List A) (i : ℕ) → length old ≤ i → IsWalked keys k f d old new i → AreChanged keys k f d old new
+  pub walked_all : (new : List A) (i : ℕ) → length old ≤ i → IsWalked keys k f d old new i
+      → AreChanged keys k f d old new
   walked_all new i over so_far j low = so_far.done j (omega arith) low
 
 -- what several walks collect
@@ -48,12 +51,14 @@ abbrev pub after_each : Option ℕ → Option (ℕ × ℕ) → ℕ × ℕ → Li
 after_each key t s [] = t
 after_each key t s (k ∷ ks) = after_each key (spread_after (is_at key k) t s) s ks
 
-any_after : (here rest : Bool) (t : Option (ℕ × ℕ)) (s : ℕ × ℕ) → spread_after rest (spread_after here t s) s ≡ spread_after (here || rest) t s
+any_after : (here rest : Bool) (t : Option (ℕ × ℕ)) (s : ℕ × ℕ)
+    → spread_after rest (spread_after here t s) s ≡ spread_after (here || rest) t s
 any_after true true t s = collected_twice t s
 any_after true false t s = refl
 any_after false rest t s = refl
 
-pub each_after : (key : Option ℕ) (t : Option (ℕ × ℕ)) (s : ℕ × ℕ) (ks : List ℕ) → after_each key t s ks ≡ spread_after (list_any (λ k. is_at key k) ks) t s
+pub each_after : (key : Option ℕ) (t : Option (ℕ × ℕ)) (s : ℕ × ℕ) (ks : List ℕ)
+    → after_each key t s ks ≡ spread_after (list_any (λ k. is_at key k) ks) t s
 each_after key t s [] = refl
 each_after key t s (k ∷ ks) = each_after key (spread_after (is_at key k) t s) s ks ∙ any_after (is_at key k) (list_any (λ n. is_at key n) ks) t s
 
@@ -67,6 +72,7 @@ any_reset true true s = refl
 any_reset true false s = refl
 any_reset false rest s = refl
 
-pub each_reset : (key : Option ℕ) (s : ℕ × ℕ) (ks : List ℕ) → reset_each key s ks ≡ cond (list_any (λ k. is_at key k) ks) (0, 0) s
+pub each_reset : (key : Option ℕ) (s : ℕ × ℕ) (ks : List ℕ)
+    → reset_each key s ks ≡ cond (list_any (λ k. is_at key k) ks) (0, 0) s
 each_reset key s [] = refl
 each_reset key s (k ∷ ks) = each_reset key (cond (is_at key k) (0, 0) s) ks ∙ any_reset (is_at key k) (list_any (λ n. is_at key n) ks) s

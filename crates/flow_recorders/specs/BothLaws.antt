@@ -7,7 +7,8 @@ use Rattle.flow_recorders.specs.declared.both.Both.{Both}
 use Rattle.flow_recorders.specs.declared.both.BothBook.{BothBook}
 use Rattle.flow_recorders.specs.BothRules.{both_order, both_recording}
 
-pub both_is_order : {X Y : Type 0} (a : Order X) (b : Order Y) → IsOrder X a → IsOrder Y b → IsOrder (Both X Y) (both_order a b)
+pub both_is_order : {X Y : Type 0} (a : Order X) (b : Order Y) → IsOrder X a → IsOrder Y b
+    → IsOrder (Both X Y) (both_order a b)
 both_is_order a b l r = record {
   itself = λ x. (l.itself x.first, r.itself x.second);
   farther = λ x y z g h. (l.farther x.first y.first z.first g.0 h.0, r.farther x.second y.second z.second g.1 h.1);
@@ -28,7 +29,8 @@ module _ {X Y P Q : Type 0} (a : Recording X P) (b : Recording Y Q) (o : Outline
   second_of : (r : Both X Y) (k : BothBook P Q) → IsOf (both_recording a b) o r k → IsOf b o r.second k.second
   second_of r k h = record { suited = second_suited h.suited; recorder = h.recorder.1; book = h.book.1 }
 
-  both_of : (r : Both X Y) (k : BothBook P Q) → IsSuited (both_recording a b) o → IsOf a o r.first k.first → IsOf b o r.second k.second → IsOf (both_recording a b) o r k
+  both_of : (r : Both X Y) (k : BothBook P Q) → IsSuited (both_recording a b) o → IsOf a o r.first k.first
+      → IsOf b o r.second k.second → IsOf (both_recording a b) o r k
   both_of r k suited x y = record { suited = suited; recorder = (x.recorder, y.recorder); book = (x.book, y.book) }
 
 -- the greater of two that are at most one more
@@ -41,7 +43,8 @@ max_max m n a b c d first second = omega arith
 max_one : (m n : ℕ) → m ≤ 1 → n ≤ 1 → max m n ≤ 1
 max_one m n first second = omega arith
 
-pub both_is_recording : {X Y P Q : Type 0} (s : Order X) (t : Order Y) (a : Recording X P) (b : Recording Y Q) → IsRecording X P s a → IsRecording Y Q t b
+pub both_is_recording : {X Y P Q : Type 0} (s : Order X) (t : Order Y) (a : Recording X P) (b : Recording Y Q)
+    → IsRecording X P s a → IsRecording Y Q t b
     → IsRecording (Both X Y) (BothBook P Q) (both_order s t) (both_recording a b)
 both_is_recording s t a b l r = record {
   first_is_of = λ o suited. (l.first_is_of o (first_suited a b o suited), r.first_is_of o (second_suited a b o suited));

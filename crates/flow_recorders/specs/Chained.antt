@@ -21,7 +21,8 @@ KeysBelow keys n = (i k : ℕ) → key_at keys i ≡ Some k → k < n
 -- from the number i on
 pub record IsChainedFrom (keys : List (Option ℕ)) (i : ℕ) (first next : List ℕ) : Type 0 where
   pub firsts : (k : ℕ) → k < length first → IsNext keys k i (slice_index first k)
-  pub nexts : (j k : ℕ) → i ≤ j → j < length keys → is_at (key_at keys j) k ≡ true → IsNext keys k (j + 1) (slice_index next j)
+  pub nexts : (j k : ℕ) → i ≤ j → j < length keys → is_at (key_at keys j) k ≡ true
+      → IsNext keys k (j + 1) (slice_index next j)
 
 -- all numbers
 pub record IsChained (keys : List (Option ℕ)) (first next : List ℕ) : Type 0 where

@@ -4,9 +4,11 @@
 use Rattle.std.specs.Prelude.{◌≡◌, ◌<◌, ◌≤◌, ℕ, List, Option, true, length, slice_index_or, if◌then◌else◌}
 use Rattle.recorder_rules.specs.TallyRules.{key_at, is_at}
 
-pub record IsWalked {A : Type 0} (keys : List (Option ℕ)) (k : ℕ) (f : ℕ → A) (d : A) (old new : List A) (i : ℕ) : Type 0 where
+pub record IsWalked {A : Type 0} (keys : List (Option ℕ)) (k : ℕ) (f : ℕ → A) (d : A) (old new : List A)
+    (i : ℕ) : Type 0 where
   pub same_length : length new ≡ length old
-  pub done : (j : ℕ) → j < i → j < length old → slice_index_or new j d ≡ (if is_at (key_at keys j) k then f j else slice_index_or old j d)
+  pub done : (j : ℕ) → j < i → j < length old
+      → slice_index_or new j d ≡ (if is_at (key_at keys j) k then f j else slice_index_or old j d)
   pub rest : (j : ℕ) → i ≤ j → slice_index_or new j d ≡ slice_index_or old j d
   pub here : i < length old → is_at (key_at keys i) k ≡ true
 

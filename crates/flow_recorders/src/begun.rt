@@ -12,7 +12,8 @@ use std::alloc::{AllocError, Global};
 
 /// The spans of a run that begins at node 0.
 pub fn begun(alloc: Global, nodes: &[Option<u32>]) -> Result<SpanList, AllocError>
-    ensures { IfOk result (λ spans. spans ≡ generated (length nodes.now) (λ i. if is_at (key_at nodes.now i) 0 then (1, 1) else (0, 0))) }
+    ensures { IfOk result
+        (λ spans. spans ≡ generated (length nodes.now) (λ i. if is_at (key_at nodes.now i) 0 then (1, 1) else (0, 0))) }
 {
     let mut counts = Vec::with_capacity(alloc, nodes.len())?;
     for i in 0..nodes.len() {
@@ -44,7 +45,8 @@ pub fn each_scope(alloc: Global, outline: &Outline) -> Result<Vec<Option<u32>>, 
 
 /// The header of each scope.
 pub fn each_header(alloc: Global, outline: &Outline) -> Result<Vec<Option<u32>>, AllocError>
-    ensures { IfOk result (λ keys. keys.items ≡ generated (length outline.now.scopes) (λ t. Some (header_of outline.now.scopes t))) }
+    ensures { IfOk result
+        (λ keys. keys.items ≡ generated (length outline.now.scopes) (λ t. Some (header_of outline.now.scopes t))) }
 {
     let mut keys = Vec::new(alloc);
     for t in 0..outline.scope_count() {
@@ -100,7 +102,8 @@ fn scope_key(outline: &Outline, node: u32) -> Option<u32>
 
 /// Each counted node, at its own number.
 pub fn counted_nodes(alloc: Global, outline: &Outline) -> Result<Vec<Option<u32>>, AllocError>
-    ensures { IfOk result (λ keys. keys.items ≡ generated (length outline.now.nodes) (counted_node (shape_of outline.now))) }
+    ensures { IfOk result
+        (λ keys. keys.items ≡ generated (length outline.now.nodes) (counted_node (shape_of outline.now))) }
 {
     let mut keys = Vec::new(alloc);
     for n in 0..outline.node_count() {
@@ -111,7 +114,8 @@ pub fn counted_nodes(alloc: Global, outline: &Outline) -> Result<Vec<Option<u32>
 
 /// The scope of each counted node.
 pub fn counted_scopes(alloc: Global, outline: &Outline) -> Result<Vec<Option<u32>>, AllocError>
-    ensures { IfOk result (λ keys. keys.items ≡ generated (length outline.now.nodes) (counted_scope (shape_of outline.now))) }
+    ensures { IfOk result
+        (λ keys. keys.items ≡ generated (length outline.now.nodes) (counted_scope (shape_of outline.now))) }
 {
     let mut keys = Vec::new(alloc);
     for n in 0..outline.node_count() {

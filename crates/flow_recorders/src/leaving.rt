@@ -21,7 +21,8 @@ pub fn left_scopes(
 ) -> Result<Vec<u32>, AllocError>
     requires from { from < length outline.now.nodes }
     requires to { to < length outline.now.nodes }
-    ensures { IfOk result (λ left. (t : ℕ) → list_any (λ s. t == s) left.items ≡ is_left (shape_of outline.now) t from to) }
+    ensures { IfOk result
+        (λ left. (t : ℕ) → list_any (λ s. t == s) left.items ≡ is_left (shape_of outline.now) t from to) }
 {
     match left_nearby(alloc, outline, from, to)? {
         Some(left) => Ok(left),
@@ -52,7 +53,9 @@ fn left_nearby(
 ) -> Result<Option<Vec<u32>>, AllocError>
     requires from { from < length outline.now.nodes }
     requires to { to < length outline.now.nodes }
-    ensures { IfOk result (λ found. IfSome found (λ left. (t : ℕ) → list_any (λ s. t == s) left.items ≡ is_left (shape_of outline.now) t from to)) }
+    ensures { IfOk result
+        (λ found. IfSome found
+        (λ left. (t : ℕ) → list_any (λ s. t == s) left.items ≡ is_left (shape_of outline.now) t from to)) }
 {
     outline.kept();
     let own = outline.node(to).scope;
@@ -82,7 +85,8 @@ fn left_by_walks(
 ) -> Result<Vec<u32>, AllocError>
     requires from { from < length outline.now.nodes }
     requires to { to < length outline.now.nodes }
-    ensures { IfOk result (λ left. (t : ℕ) → list_any (λ s. t == s) left.items ≡ is_left (shape_of outline.now) t from to) }
+    ensures { IfOk result
+        (λ left. (t : ℕ) → list_any (λ s. t == s) left.items ≡ is_left (shape_of outline.now) t from to) }
 {
     outline.kept();
     let mut left = Vec::new(alloc);

@@ -43,7 +43,12 @@ impl Tallies {
         requires nodes { KeysBelow nodes.items (length outline.now.nodes) }
         requires few { length scopes.items < 2 ^ 32 }
         requires same_length { length nodes.items ≡ length scopes.items }
-        ensures { IfOk result (λ book. book ≡ record { tally = record { scopes = scopes.items; nodes = nodes.items }; spreads = replicate (length scopes.items) None }) }
+        ensures { IfOk result
+            (λ book. book
+            ≡ record {
+              tally = record { scopes = scopes.items; nodes = nodes.items };
+              spreads = replicate (length scopes.items) None;
+            }) }
     {
         let spreads = vec![in alloc; None; scopes.len()]?;
         let scopes = chained(alloc, scopes, outline.scope_count() as usize)?;
@@ -77,7 +82,12 @@ impl Tallies {
         requires to { to < length outline.now.nodes }
         requires room { greatest spans.old < 2 ^ 32 - 1 }
         ensures spans { OnOk result (spans.new ≡ spans_gone (shape_of outline.now) self.old.tally spans.old from to) }
-        ensures book { OnOk result (self.new ≡ record { tally = self.old.tally; spreads = spreads_gone (shape_of outline.now) self.old.tally spans.old self.old.spreads from to }) }
+        ensures book { OnOk result
+            (self.new
+            ≡ record {
+              tally = self.old.tally;
+              spreads = spreads_gone (shape_of outline.now) self.old.tally spans.old self.old.spreads from to;
+            }) }
     {
         let left = left_scopes(alloc, outline, from, to)?;
         collect_scopes(&self.scopes, &left, spans, &mut self.spreads);
@@ -96,7 +106,12 @@ impl Tallies {
     ) -> Result<(), AllocError>
         requires ledger { IsLedger self.old (length spans.now) }
         requires last { last < length outline.now.nodes }
-        ensures { OnOk result (self.new ≡ record { tally = self.old.tally; spreads = spreads_ended (shape_of outline.now) self.old.tally spans.now self.old.spreads last }) }
+        ensures { OnOk result
+            (self.new
+            ≡ record {
+              tally = self.old.tally;
+              spreads = spreads_ended (shape_of outline.now) self.old.tally spans.now self.old.spreads last;
+            }) }
     {
         let around = outline.around(alloc, last)?;
         collect_scopes(&self.scopes, &around, spans, &mut self.spreads);

@@ -16,7 +16,8 @@ use std::alloc::{AllocError, Global};
 fn collect_scope(chains: &Chains, scope: u32, spans: &SpanList, spreads: &mut [Option<(u32, u32)>])
     requires keys { length chains.now ≡ length spreads.old }
     requires spans { length spans.now ≡ length spreads.old }
-    ensures { AreChanged chains.now scope (λ j. collected (spread_at spreads.old j) (span_at spans.now j)) None spreads.old spreads.new }
+    ensures { AreChanged chains.now scope (λ j. collected (spread_at spreads.old j) (span_at spans.now j)) None
+        spreads.old spreads.new }
 {
     let mut i = chains.first_of(scope);
     while i < spreads.len() {
@@ -52,7 +53,8 @@ pub fn enter(
     requires keys { length chains.now ≡ length spans.old }
     requires room { greatest spans.old < 2 ^ 32 - 1 }
     ensures same_length { OnOk result (length spans.new ≡ length spans.old) }
-    ensures entered { OnOk result (AreChanged chains.now node (λ j. one_more (span_at spans.old j)) (0, 0) spans.old spans.new) }
+    ensures entered { OnOk result
+        (AreChanged chains.now node (λ j. one_more (span_at spans.old j)) (0, 0) spans.old spans.new) }
 {
     let count = spans.len();
     let mut i = chains.first_of(node);
@@ -72,7 +74,10 @@ pub fn collect_scopes(
 )
     requires keys { length chains.now ≡ length spreads.old }
     requires spans { length spans.now ≡ length spreads.old }
-    ensures { (j : ℕ) → j < length spreads.old → spread_at spreads.new j ≡ spread_after (list_any (λ k. is_at (key_at chains.now j) k) scopes.now) (spread_at spreads.old j) (span_at spans.now j) }
+    ensures { (j : ℕ) → j < length spreads.old
+        → spread_at spreads.new j
+        ≡ spread_after (list_any (λ k. is_at (key_at chains.now j) k) scopes.now) (spread_at spreads.old j)
+        (span_at spans.now j) }
 {
     for scope in scopes {
         collect_scope(chains, *scope, spans, spreads);
@@ -83,7 +88,9 @@ pub fn collect_scopes(
 fn reset_all(chains: &Chains, scopes: &[u32], spans: &mut SpanList) -> bool
     requires { length chains.now ≡ length spans.old }
     ensures same_length { length spans.new ≡ length spans.old }
-    ensures reset { (j : ℕ) → j < length spans.old → span_at spans.new j ≡ (if list_any (λ k. is_at (key_at chains.now j) k) scopes.now then (0, 0) else span_at spans.old j) }
+    ensures reset { (j : ℕ) → j < length spans.old
+        → span_at spans.new j
+        ≡ (if list_any (λ k. is_at (key_at chains.now j) k) scopes.now then (0, 0) else span_at spans.old j) }
 {
     let mut was_wide = false;
     for scope in scopes {
@@ -102,7 +109,10 @@ pub fn reset_scopes(
 ) -> Result<(), AllocError>
     requires { length chains.now ≡ length spans.old }
     ensures same_length { OnOk result (length spans.new ≡ length spans.old) }
-    ensures reset { OnOk result ((j : ℕ) → j < length spans.old → span_at spans.new j ≡ (if list_any (λ k. is_at (key_at chains.now j) k) scopes.now then (0, 0) else span_at spans.old j)) }
+    ensures reset { OnOk result
+        ((j : ℕ) → j < length spans.old
+        → span_at spans.new j
+        ≡ (if list_any (λ k. is_at (key_at chains.now j) k) scopes.now then (0, 0) else span_at spans.old j)) }
 {
     if reset_all(chains, scopes, spans) {
         spans.settle(alloc)?;

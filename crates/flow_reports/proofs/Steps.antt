@@ -25,25 +25,30 @@ pub begun : (old : List Fact) (f : ℕ → List Fact) → old ≡ old ++ below f
 begun old f = sym (append-nil old)
 
 -- one turn more
-pub told_more : (old facts more : List Fact) (f : ℕ → List Fact) (n : ℕ) → more ≡ facts ++ f n → facts ≡ old ++ below f n → more ≡ old ++ below f (n + 1)
+pub told_more : (old facts more : List Fact) (f : ℕ → List Fact) (n : ℕ) → more ≡ facts ++ f n
+    → facts ≡ old ++ below f n → more ≡ old ++ below f (n + 1)
 told_more old facts more f n is so_far =
     is ∙ ap (λ (xs : List Fact). xs ++ f n) so_far ∙ append_assoc old (below f n) (f n) ∙ ap (λ (k : ℕ). old ++ below f k) (sym (add-one n))
 
 -- after the last one
-pub told_all : (old facts : List Fact) (f : ℕ → List Fact) (n k : ℕ) → n ≡ k → facts ≡ old ++ below f n → facts ≡ old ++ below f k
+pub told_all : (old facts : List Fact) (f : ℕ → List Fact) (n k : ℕ) → n ≡ k → facts ≡ old ++ below f n
+    → facts ≡ old ++ below f k
 told_all old facts f n k same so_far = so_far ∙ ap (λ (m : ℕ). old ++ below f m) same
 
 -- where no span was collected, no line is told
-pub no_line : (old : List Fact) (line : ℕ → ℕ → Fact) (v : Bool) (spread : Option (ℕ × ℕ)) → spread ≡ None → old ≡ old ++ cond v (span_lines line spread) []
+pub no_line : (old : List Fact) (line : ℕ → ℕ → Fact) (v : Bool) (spread : Option (ℕ × ℕ)) → spread ≡ None
+    → old ≡ old ++ cond v (span_lines line spread) []
 no_line old line false spread none = sym (append-nil old)
 no_line old line true spread none = sym (append-nil old) ∙ ap (λ (t : Option (ℕ × ℕ)). old ++ span_lines line t) (sym none)
 
 -- a book has nothing at a place where its look-up answers so
-pub nothing_at : (spreads : List (Option (ℕ × ℕ))) (place : ℕ) (answer : Option (ℕ × ℕ)) → slice_get spreads place ≡ Some answer → answer ≡ None → spread_at spreads place ≡ None
+pub nothing_at : (spreads : List (Option (ℕ × ℕ))) (place : ℕ) (answer : Option (ℕ × ℕ))
+    → slice_get spreads place ≡ Some answer → answer ≡ None → spread_at spreads place ≡ None
 nothing_at spreads place answer told none = get_or_from_slice_get spreads place answer None told ∙ none
 
 -- one line more
-pub lines_more : (rows : List NodeRow) (lines more : List NodeLine) (i : ℕ) (row : NodeRow) (line : NodeLine) → more ≡ lines ++ line ∷ [] → map node_of lines ≡ map named_node (take i rows)
+pub lines_more : (rows : List NodeRow) (lines more : List NodeLine) (i : ℕ) (row : NodeRow) (line : NodeLine)
+    → more ≡ lines ++ line ∷ [] → map node_of lines ≡ map named_node (take i rows)
     → node_of line ≡ named_node row → slice_get rows i ≡ Some row → map node_of more ≡ map named_node (take (i + 1) rows)
 lines_more rows lines more i row line is so_far same at =
     ap (λ (xs : List NodeLine). map node_of xs) is

@@ -48,7 +48,8 @@ pub fn tell_alarms(
     found: &Collected,
 ) -> Result<(), AllocError>
     requires sized { IsSized outline.now (found_in found.now) }
-    ensures { OnOk result (facts.new.items ≡ facts.old.items ++ below (alarm_lines (found_in found.now)) (length outline.now.nodes)) }
+    ensures { OnOk result
+        (facts.new.items ≡ facts.old.items ++ below (alarm_lines (found_in found.now)) (length outline.now.nodes)) }
 {
     for n in 0..outline.node_count() {
         tell_alarms_at(facts, found, n)?;

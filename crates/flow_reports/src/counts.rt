@@ -16,7 +16,9 @@ use std::alloc::AllocError;
 fn is_told(outline: &Outline, found: &Collected, scope: u32, node: u32) -> bool
     requires sized { IsSized outline.now (found_in found.now) }
     requires node { node < length outline.now.nodes }
-    ensures { result ≡ (is_stepped (found_in found.now) node && (is_counted (shape_of outline.now) node && (own_of (shape_of outline.now) node == scope))) }
+    ensures { result
+        ≡ (is_stepped (found_in found.now) node &&
+        (is_counted (shape_of outline.now) node && (own_of (shape_of outline.now) node == scope))) }
 {
     found.stepped[node as usize]
         && is_counted_at(outline, node)
@@ -33,7 +35,8 @@ fn tell_count(
 ) -> Result<(), AllocError>
     requires sized { IsSized outline.now (found_in found.now) }
     requires node { node < length outline.now.nodes }
-    ensures { OnOk result (facts.new.items ≡ facts.old.items ++ count_line outline.now (found_in found.now) scope node) }
+    ensures { OnOk result
+        (facts.new.items ≡ facts.old.items ++ count_line outline.now (found_in found.now) scope node) }
 {
     if !is_told(outline, found, scope, node) {
         return Ok(());
@@ -67,7 +70,9 @@ pub fn tell_counts(
     found: &Collected,
 ) -> Result<(), AllocError>
     requires sized { IsSized outline.now (found_in found.now) }
-    ensures { OnOk result (facts.new.items ≡ facts.old.items ++ below (count_lines outline.now (found_in found.now)) (length outline.now.scopes)) }
+    ensures { OnOk result
+        (facts.new.items
+        ≡ facts.old.items ++ below (count_lines outline.now (found_in found.now)) (length outline.now.scopes)) }
 {
     for s in 0..outline.scope_count() {
         tell_counts_in(facts, outline, found, s)?;

@@ -37,7 +37,9 @@ pub fn tell_loops(
     found: &Collected,
 ) -> Result<(), AllocError>
     requires sized { IsSized outline.now (found_in found.now) }
-    ensures { OnOk result (facts.new.items ≡ facts.old.items ++ below (loop_lines outline.now (found_in found.now)) (length outline.now.scopes)) }
+    ensures { OnOk result
+        (facts.new.items
+        ≡ facts.old.items ++ below (loop_lines outline.now (found_in found.now)) (length outline.now.scopes)) }
 {
     for s in 0..outline.scope_count() {
         tell_loop(facts, outline, found, s)?;

@@ -29,7 +29,9 @@ fn is_pair(outline: &Outline, found: &Collected, scope: u32, a: u32, b: u32) -> 
     requires scope { scope < length outline.now.scopes }
     requires first { a < length outline.now.nodes }
     requires second { b < length outline.now.nodes }
-    ensures { result ≡ (nat_lt a b && (may_pair outline.now (found_in found.now) scope b && not (together found.now.books.now.second.second a b))) }
+    ensures { result
+        ≡ (nat_lt a b &&
+        (may_pair outline.now (found_in found.now) scope b && not (together found.now.books.now.second.second a b))) }
 {
     a < b && may_pair_at(outline, found, scope, b) && !found.books.second.second.together(a, b)
 }
@@ -66,7 +68,9 @@ fn tell_pairs_from(
     requires sized { IsSized outline.now (found_in found.now) }
     requires scope { scope < length outline.now.scopes }
     requires first { a < length outline.now.nodes }
-    ensures { OnOk result (facts.new.items ≡ facts.old.items ++ below (pair_line outline.now (found_in found.now) scope a) (length outline.now.nodes)) }
+    ensures { OnOk result
+        (facts.new.items
+        ≡ facts.old.items ++ below (pair_line outline.now (found_in found.now) scope a) (length outline.now.nodes)) }
 {
     for b in 0..outline.node_count() {
         tell_pair(facts, outline, found, scope, a, b)?;
@@ -117,7 +121,9 @@ pub fn tell_pairs(
     found: &Collected,
 ) -> Result<(), AllocError>
     requires sized { IsSized outline.now (found_in found.now) }
-    ensures { OnOk result (facts.new.items ≡ facts.old.items ++ below (pair_lines outline.now (found_in found.now)) (length outline.now.scopes)) }
+    ensures { OnOk result
+        (facts.new.items
+        ≡ facts.old.items ++ below (pair_lines outline.now (found_in found.now)) (length outline.now.scopes)) }
 {
     for s in 0..outline.scope_count() {
         tell_pairs_in(facts, outline, found, s)?;

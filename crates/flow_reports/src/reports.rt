@@ -4,7 +4,8 @@ ghost use Rattle.std.specs.Prelude.{◌≡◌, ◌<◌, ◌≤◌, ◌*◌, ◌^
 ghost use Rattle.flow_facts.specs.Reports.{reported};
 ghost use Rattle.flow_facts.specs.Writable.{IsNodeName, IsWritable};
 ghost use Rattle.abstract_exec.specs.Explorations.{IsPool};
-ghost use Rattle.report_soundness.specs.ReportTold.{four_recording, books_of, found_of, told_facts, count_bound, told_report};
+ghost use Rattle.report_soundness.specs.ReportTold.{four_recording, books_of, found_of, told_facts, count_bound};
+ghost use Rattle.report_soundness.specs.ReportTold.{told_report};
 ghost use Rattle.report_soundness.specs.Numbers.{AreOrderly};
 ghost use Rattle.report_soundness.specs.Runs.{IsSound};
 ghost use Rattle.flow_gathering.specs.Gathering.{found_in, IsSized};
@@ -79,11 +80,13 @@ pub fn report<S: Stepper>(
 
     // Where no place is left, each run of the stepper's system ends, meets each fact, faults only where an
     // alarm says so, and costs no more than the count bound.
-    ensures sound { pool.now.spots ≡ [] → IfOk result (λ report. IsSound (S.machine pool.now.stepper).system outline.now (reported report)) }
+    ensures sound { pool.now.spots ≡ []
+        → IfOk result (λ report. IsSound (S.machine pool.now.stepper).system outline.now (reported report)) }
 
     // Where the nodes have names as reports spell them, the report is one that some text spells: what is
     // printed is read again as the same report.
-    ensures writable { All (λ row. IsNodeName row.name.items) outline.now.nodes → IfOk result (λ report. IsWritable (reported report)) }
+    ensures writable { All (λ row. IsNodeName row.name.items) outline.now.nodes
+        → IfOk result (λ report. IsWritable (reported report)) }
 {
     outline.kept();
     outline.costs_fit();

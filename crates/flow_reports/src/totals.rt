@@ -28,7 +28,8 @@ pub fn tell_deads(
     found: &Collected,
 ) -> Result<(), AllocError>
     requires sized { IsSized outline.now (found_in found.now) }
-    ensures { OnOk result (facts.new.items ≡ facts.old.items ++ below (dead_lines (found_in found.now)) (length outline.now.nodes)) }
+    ensures { OnOk result
+        (facts.new.items ≡ facts.old.items ++ below (dead_lines (found_in found.now)) (length outline.now.nodes)) }
 {
     for n in 0..outline.node_count() {
         tell_dead(facts, found, n)?;
@@ -58,7 +59,8 @@ pub fn tell_totals(
     found: &Collected,
 ) -> Result<(), AllocError>
     requires sized { IsSized outline.now (found_in found.now) }
-    ensures { OnOk result (facts.new.items ≡ facts.old.items ++ below (total_lines (found_in found.now)) (length outline.now.nodes)) }
+    ensures { OnOk result
+        (facts.new.items ≡ facts.old.items ++ below (total_lines (found_in found.now)) (length outline.now.nodes)) }
 {
     for n in 0..outline.node_count() {
         tell_total(facts, found, n)?;

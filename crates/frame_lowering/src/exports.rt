@@ -17,7 +17,8 @@ pub fn exports_of(
     table: &Table<'_>,
     externals: &[External],
 ) -> Result<Vec<Name>, AllocError>
-    ensures { IfOk result (λ names. names.items ≡ map (frame_of (program_in table.now)) (integers_in (map external_of externals.now))) }
+    ensures { IfOk result
+        (λ names. names.items ≡ map (frame_of (program_in table.now)) (integers_in (map external_of externals.now))) }
 {
     let mut names = Vec::new(alloc);
     let mut rest = externals;
@@ -43,7 +44,10 @@ fn put_exports(
     names: &mut Vec<Name>,
     declarators: &[Declarator],
 ) -> Result<(), AllocError>
-    ensures { OnOk result (names.new.items ≡ names.old.items ++ map (frame_of (program_in table.now)) (integers_declared (map declarator_of declarators.now))) }
+    ensures { OnOk result
+        (names.new.items
+        ≡ names.old.items
+        ++ map (frame_of (program_in table.now)) (integers_declared (map declarator_of declarators.now))) }
 {
     let mut rest = declarators;
     'declarators: while let Some((declarator, others)) = rest.split_first() {

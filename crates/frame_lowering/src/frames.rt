@@ -4,7 +4,8 @@ ghost use Rattle.std.specs.Prelude.{◌≡◌, ◌≤◌, ◌<◌, ◌+◌, ◌^
 ghost use Rattle.std.specs.Option.{option_map};
 ghost use Rattle.alf_program.specs.Tree.{allocation_of};
 ghost use Rattle.c_unit.specs.Limits.{most_elements};
-ghost use Rattle.c_unit.specs.Tree.{call_of, value_of, effect_of, local_of, local_shape_of, statement_of, statements_of};
+ghost use Rattle.c_unit.specs.Tree.{call_of, value_of, effect_of, local_of, local_shape_of, statement_of};
+ghost use Rattle.c_unit.specs.Tree.{statements_of};
 ghost use Rattle.c_unit.specs.Units.{unit_of};
 ghost use Rattle.c_rules.specs.Counts.{elements_of_all, elements_in, all_elements_in};
 ghost use Rattle.c_lowered.specs.Effects as effects;
@@ -38,7 +39,9 @@ fn put_object(
     token: u32,
     bits: u32,
 ) -> Result<(), AllocError>
-    ensures { OnOk result (map allocation_of frames.new.items ≡ map allocation_of frames.old.items ++ laws.object_frame (program_in place.entry.table.now) token bits ∷ []) }
+    ensures { OnOk result
+        (map allocation_of frames.new.items
+        ≡ map allocation_of frames.old.items ++ laws.object_frame (program_in place.entry.table.now) token bits ∷ []) }
 {
     let name = Name::new(place.alloc, place.table.frame_of(token))?;
     frames.push(Alloc { name, bits })?;
@@ -53,8 +56,12 @@ fn put_call(
     call: &Call,
 ) -> Result<u64, AllocError>
     requires calls { calls + effects.calls_in_call (program_in place.table.now) (call_of call.now) < 2 ^ 64 }
-    ensures frames { OnOk result (map allocation_of frames.new.items ≡ map allocation_of frames.old.items ++ laws.call_frames (program_in place.entry.table.now) place.entry.function calls (call_of call.now)) }
-    ensures calls { IfOk result (λ next. next ≡ calls + effects.calls_in_call (program_in place.entry.table.now) (call_of call.now)) }
+    ensures frames { OnOk result
+        (map allocation_of frames.new.items
+        ≡ map allocation_of frames.old.items
+        ++ laws.call_frames (program_in place.entry.table.now) place.entry.function calls (call_of call.now)) }
+    ensures calls { IfOk result
+        (λ next. next ≡ calls + effects.calls_in_call (program_in place.entry.table.now) (call_of call.now)) }
 {
     let given = place.table.result_of(call.name);
     match given {
@@ -78,8 +85,12 @@ fn put_value(
     value: &Value,
 ) -> Result<u64, AllocError>
     requires calls { calls + effects.calls_in_value (program_in place.table.now) (value_of value.now) < 2 ^ 64 }
-    ensures frames { OnOk result (map allocation_of frames.new.items ≡ map allocation_of frames.old.items ++ laws.value_frames (program_in place.entry.table.now) place.entry.function calls (value_of value.now)) }
-    ensures calls { IfOk result (λ next. next ≡ calls + effects.calls_in_value (program_in place.entry.table.now) (value_of value.now)) }
+    ensures frames { OnOk result
+        (map allocation_of frames.new.items
+        ≡ map allocation_of frames.old.items
+        ++ laws.value_frames (program_in place.entry.table.now) place.entry.function calls (value_of value.now)) }
+    ensures calls { IfOk result
+        (λ next. next ≡ calls + effects.calls_in_value (program_in place.entry.table.now) (value_of value.now)) }
 {
     match value {
         Value::Expr(_) => Ok(calls),
@@ -94,9 +105,16 @@ fn put_first(
     calls: u64,
     first: &Option<Value>,
 ) -> Result<u64, AllocError>
-    requires calls { calls + effects.calls_in_first (program_in place.table.now) (option_map value_of first.now) < 2 ^ 64 }
-    ensures frames { OnOk result (map allocation_of frames.new.items ≡ map allocation_of frames.old.items ++ laws.first_frames (program_in place.entry.table.now) place.entry.function calls (option_map value_of first.now)) }
-    ensures calls { IfOk result (λ next. next ≡ calls + effects.calls_in_first (program_in place.entry.table.now) (option_map value_of first.now)) }
+    requires calls { calls + effects.calls_in_first (program_in place.table.now) (option_map value_of first.now)
+        < 2 ^ 64 }
+    ensures frames { OnOk result
+        (map allocation_of frames.new.items
+        ≡ map allocation_of frames.old.items
+        ++ laws.first_frames (program_in place.entry.table.now) place.entry.function calls
+        (option_map value_of first.now)) }
+    ensures calls { IfOk result
+        (λ next. next
+        ≡ calls + effects.calls_in_first (program_in place.entry.table.now) (option_map value_of first.now)) }
 {
     match first {
         Some(value) => put_value(place, frames, calls, value),
@@ -112,8 +130,12 @@ fn put_effect(
     effect: &Effect,
 ) -> Result<u64, AllocError>
     requires calls { calls + effects.calls_in_effect (program_in place.table.now) (effect_of effect.now) < 2 ^ 64 }
-    ensures frames { OnOk result (map allocation_of frames.new.items ≡ map allocation_of frames.old.items ++ laws.effect_frames (program_in place.entry.table.now) place.entry.function calls (effect_of effect.now)) }
-    ensures calls { IfOk result (λ next. next ≡ calls + effects.calls_in_effect (program_in place.entry.table.now) (effect_of effect.now)) }
+    ensures frames { OnOk result
+        (map allocation_of frames.new.items
+        ≡ map allocation_of frames.old.items
+        ++ laws.effect_frames (program_in place.entry.table.now) place.entry.function calls (effect_of effect.now)) }
+    ensures calls { IfOk result
+        (λ next. next ≡ calls + effects.calls_in_effect (program_in place.entry.table.now) (effect_of effect.now)) }
 {
     match effect {
         Effect::Assign(_, _, value) => put_value(place, frames, calls, value),
@@ -131,8 +153,14 @@ fn put_last(
     last: &Option<Effect>,
 ) -> Result<u64, AllocError>
     requires calls { calls + statements.calls_if (program_in place.table.now) (option_map effect_of last.now) < 2 ^ 64 }
-    ensures frames { OnOk result (map allocation_of frames.new.items ≡ map allocation_of frames.old.items ++ laws.last_frames (program_in place.entry.table.now) place.entry.function calls (option_map effect_of last.now)) }
-    ensures calls { IfOk result (λ next. next ≡ calls + statements.calls_if (program_in place.entry.table.now) (option_map effect_of last.now)) }
+    ensures frames { OnOk result
+        (map allocation_of frames.new.items
+        ≡ map allocation_of frames.old.items
+        ++ laws.last_frames (program_in place.entry.table.now) place.entry.function calls
+        (option_map effect_of last.now)) }
+    ensures calls { IfOk result
+        (λ next. next
+        ≡ calls + statements.calls_if (program_in place.entry.table.now) (option_map effect_of last.now)) }
 {
     match last {
         Some(effect) => put_effect(place, frames, calls, effect),
@@ -148,8 +176,12 @@ fn put_shape(
     shape: &LocalShape,
 ) -> Result<u64, AllocError>
     requires calls { calls + effects.calls_in_shape (program_in place.table.now) (local_shape_of shape.now) < 2 ^ 64 }
-    ensures frames { OnOk result (map allocation_of frames.new.items ≡ map allocation_of frames.old.items ++ laws.shape_frames (program_in place.entry.table.now) place.entry.function calls (local_shape_of shape.now)) }
-    ensures calls { IfOk result (λ next. next ≡ calls + effects.calls_in_shape (program_in place.entry.table.now) (local_shape_of shape.now)) }
+    ensures frames { OnOk result
+        (map allocation_of frames.new.items
+        ≡ map allocation_of frames.old.items
+        ++ laws.shape_frames (program_in place.entry.table.now) place.entry.function calls (local_shape_of shape.now)) }
+    ensures calls { IfOk result
+        (λ next. next ≡ calls + effects.calls_in_shape (program_in place.entry.table.now) (local_shape_of shape.now)) }
 {
     match shape {
         LocalShape::Integer(first) => put_first(place, frames, calls, first),
@@ -168,8 +200,13 @@ fn put_locals(
 ) -> Result<u64, AllocError>
     requires few { elements_of_all (unit_of place.table.now).words (map local_of locals.now) ≤ most_elements }
     requires calls { calls + effects.calls_in_locals (program_in place.table.now) (map local_of locals.now) < 2 ^ 64 }
-    ensures frames { OnOk result (map allocation_of frames.new.items ≡ map allocation_of frames.old.items ++ laws.locals_frames (program_in place.entry.table.now) place.entry.function calls kind (map local_of locals.now)) }
-    ensures calls { IfOk result (λ next. next ≡ calls + effects.calls_in_locals (program_in place.entry.table.now) (map local_of locals.now)) }
+    ensures frames { OnOk result
+        (map allocation_of frames.new.items
+        ≡ map allocation_of frames.old.items
+        ++ laws.locals_frames (program_in place.entry.table.now) place.entry.function calls kind
+        (map local_of locals.now)) }
+    ensures calls { IfOk result
+        (λ next. next ≡ calls + effects.calls_in_locals (program_in place.entry.table.now) (map local_of locals.now)) }
 {
     let mut next = calls;
     let mut rest = locals;
@@ -190,10 +227,19 @@ fn put_row(
     calls: u64,
     row: &[Stmt],
 ) -> Result<u64, AllocError>
-    requires few { all_elements_in (unit_of place.table.now).words (statements_of (map statement_of row.now)) ≤ most_elements }
-    requires calls { calls + statements.calls_in_all (program_in place.table.now) (statements_of (map statement_of row.now)) < 2 ^ 64 }
-    ensures frames { OnOk result (map allocation_of frames.new.items ≡ map allocation_of frames.old.items ++ laws.all_frames_in (program_in place.entry.table.now) place.entry.function calls (statements_of (map statement_of row.now))) }
-    ensures calls { IfOk result (λ next. next ≡ calls + statements.calls_in_all (program_in place.entry.table.now) (statements_of (map statement_of row.now))) }
+    requires few { all_elements_in (unit_of place.table.now).words (statements_of (map statement_of row.now))
+        ≤ most_elements }
+    requires calls { calls
+        + statements.calls_in_all (program_in place.table.now) (statements_of (map statement_of row.now)) < 2 ^ 64 }
+    ensures frames { OnOk result
+        (map allocation_of frames.new.items
+        ≡ map allocation_of frames.old.items
+        ++ laws.all_frames_in (program_in place.entry.table.now) place.entry.function calls
+        (statements_of (map statement_of row.now))) }
+    ensures calls { IfOk result
+        (λ next. next
+        ≡ calls
+        + statements.calls_in_all (program_in place.entry.table.now) (statements_of (map statement_of row.now))) }
 {
     let mut next = calls;
     for statement in row {
@@ -212,10 +258,22 @@ fn put_turns(
     body: &Stmt,
 ) -> Result<u64, AllocError>
     requires few { elements_in (unit_of place.table.now).words (statement_of body.now) ≤ most_elements }
-    requires calls { calls + (statements.calls_if (program_in place.table.now) (option_map effect_of last.now) + statements.calls_in (program_in place.table.now) (statement_of body.now)) < 2 ^ 64 }
-    ensures frames { OnOk result (map allocation_of frames.new.items ≡ map allocation_of frames.old.items ++ (laws.last_frames (program_in place.entry.table.now) place.entry.function calls (option_map effect_of last.now)
-        ++ laws.frames_in (program_in place.entry.table.now) place.entry.function (calls + statements.calls_if (program_in place.entry.table.now) (option_map effect_of last.now)) (statement_of body.now))) }
-    ensures calls { IfOk result (λ next. next ≡ calls + (statements.calls_if (program_in place.entry.table.now) (option_map effect_of last.now) + statements.calls_in (program_in place.entry.table.now) (statement_of body.now))) }
+    requires calls { calls
+        + (statements.calls_if (program_in place.table.now) (option_map effect_of last.now)
+        + statements.calls_in (program_in place.table.now) (statement_of body.now)) < 2 ^ 64 }
+    ensures frames { OnOk result
+        (map allocation_of frames.new.items
+        ≡ map allocation_of frames.old.items
+        ++ (laws.last_frames (program_in place.entry.table.now) place.entry.function calls
+        (option_map effect_of last.now)
+        ++ laws.frames_in (program_in place.entry.table.now) place.entry.function
+        (calls + statements.calls_if (program_in place.entry.table.now) (option_map effect_of last.now))
+        (statement_of body.now))) }
+    ensures calls { IfOk result
+        (λ next. next
+        ≡ calls
+        + (statements.calls_if (program_in place.entry.table.now) (option_map effect_of last.now)
+        + statements.calls_in (program_in place.entry.table.now) (statement_of body.now))) }
 {
     let middle = put_last(place, frames, calls, last)?;
     let next = put_statement(place, frames, middle, body)?;
@@ -232,8 +290,12 @@ fn put_statement(
 ) -> Result<u64, AllocError>
     requires few { elements_in (unit_of place.table.now).words (statement_of statement.now) ≤ most_elements }
     requires calls { calls + statements.calls_in (program_in place.table.now) (statement_of statement.now) < 2 ^ 64 }
-    ensures frames { OnOk result (map allocation_of frames.new.items ≡ map allocation_of frames.old.items ++ laws.frames_in (program_in place.entry.table.now) place.entry.function calls (statement_of statement.now)) }
-    ensures calls { IfOk result (λ next. next ≡ calls + statements.calls_in (program_in place.entry.table.now) (statement_of statement.now)) }
+    ensures frames { OnOk result
+        (map allocation_of frames.new.items
+        ≡ map allocation_of frames.old.items
+        ++ laws.frames_in (program_in place.entry.table.now) place.entry.function calls (statement_of statement.now)) }
+    ensures calls { IfOk result
+        (λ next. next ≡ calls + statements.calls_in (program_in place.entry.table.now) (statement_of statement.now)) }
 {
     match statement {
         Stmt::Declare(_, kind, locals) => put_locals(place, frames, calls, *kind, locals),
@@ -269,9 +331,14 @@ fn put_statement(
 
 /// The frames of the locals and results of a function, in the order of the text.
 pub fn frames_in(place: Place<'_, '_>, body: &[Stmt]) -> Result<Vec<Alloc>, AllocError>
-    requires few { all_elements_in (unit_of place.table.now).words (statements_of (map statement_of body.now)) ≤ most_elements }
-    requires calls { statements.calls_in_all (program_in place.table.now) (statements_of (map statement_of body.now)) < 2 ^ 64 }
-    ensures { IfOk result (λ frames. map allocation_of frames.items ≡ laws.all_frames_in (program_in place.entry.table.now) place.entry.function 0 (statements_of (map statement_of body.now))) }
+    requires few { all_elements_in (unit_of place.table.now).words (statements_of (map statement_of body.now))
+        ≤ most_elements }
+    requires calls { statements.calls_in_all (program_in place.table.now) (statements_of (map statement_of body.now))
+        < 2 ^ 64 }
+    ensures { IfOk result
+        (λ frames. map allocation_of frames.items
+        ≡ laws.all_frames_in (program_in place.entry.table.now) place.entry.function 0
+        (statements_of (map statement_of body.now))) }
 {
     let mut frames = Vec::new(place.alloc);
     put_row(place, &mut frames, 0, body)?;
@@ -283,7 +350,9 @@ pub fn parameter_frames(
     place: Place<'_, '_>,
     parameters: &[Parameter],
 ) -> Result<Vec<Alloc>, AllocError>
-    ensures { IfOk result (λ frames. map allocation_of frames.items ≡ laws.parameter_frames (program_in place.entry.table.now) parameters.now) }
+    ensures { IfOk result
+        (λ frames. map allocation_of frames.items
+        ≡ laws.parameter_frames (program_in place.entry.table.now) parameters.now) }
 {
     let mut frames = Vec::new(place.alloc);
     for parameter in parameters {

@@ -29,7 +29,9 @@ fn put_global(
     frames: &mut Vec<Alloc>,
     object: Object,
 ) -> Result<(), AllocError>
-    ensures { OnOk result (map allocation_of frames.new.items ≡ map allocation_of frames.old.items ++ global_frame (program_in table.now) (object_of object)) }
+    ensures { OnOk result
+        (map allocation_of frames.new.items
+        ≡ map allocation_of frames.old.items ++ global_frame (program_in table.now) (object_of object)) }
 {
     match object.owner {
         Some(_) => Ok(()),

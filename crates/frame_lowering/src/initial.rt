@@ -123,7 +123,11 @@ fn put_element(
     offset: u32,
     constants: &[Constant],
 ) -> Result<(), AllocError>
-    ensures { OnOk result (map initial_of inits.new.items ≡ map initial_of inits.old.items ++ record { name = name.now; offset = offset; num = laws.first_num (program_in table.now) kind constants.now } ∷ []) }
+    ensures { OnOk result
+        (map initial_of inits.new.items
+        ≡ map initial_of inits.old.items
+        ++ record { name = name.now; offset = offset; num = laws.first_num (program_in table.now) kind constants.now }
+        ∷ []) }
 {
     let num = first_num(table, kind, constants);
     let name = Name::new(alloc, name)?;
@@ -143,7 +147,10 @@ fn put_elements(
     constants: &[Constant],
 ) -> Result<(), AllocError>
     requires few { count ≤ most_elements }
-    ensures { OnOk result (map initial_of inits.new.items ≡ map initial_of inits.old.items ++ laws.element_words (program_in table.now) name.now kind 0 count constants.now) }
+    ensures { OnOk result
+        (map initial_of inits.new.items
+        ≡ map initial_of inits.old.items
+        ++ laws.element_words (program_in table.now) name.now kind 0 count constants.now) }
 {
     let mut left = count;
     let mut offset: u32 = 0;
@@ -167,7 +174,10 @@ fn put_shape(
     shape: &Shape,
 ) -> Result<(), AllocError>
     requires few { elements_of_shape (unit_of table.now).words (shape_of shape.now) ≤ most_elements }
-    ensures { OnOk result (map initial_of inits.new.items ≡ map initial_of inits.old.items ++ laws.shape_words (program_in table.now) name.now kind (shape_of shape.now)) }
+    ensures { OnOk result
+        (map initial_of inits.new.items
+        ≡ map initial_of inits.old.items
+        ++ laws.shape_words (program_in table.now) name.now kind (shape_of shape.now)) }
 {
     match shape {
         Shape::Integer(first) => {
@@ -202,8 +212,12 @@ fn put_declarators(
     kind: Integer,
     declarators: &[Declarator],
 ) -> Result<(), AllocError>
-    requires few { elements_of_declarators (unit_of table.now).words (map declarator_of declarators.now) ≤ most_elements }
-    ensures { OnOk result (map initial_of inits.new.items ≡ map initial_of inits.old.items ++ laws.declarators_words (program_in table.now) kind (map declarator_of declarators.now)) }
+    requires few { elements_of_declarators (unit_of table.now).words (map declarator_of declarators.now)
+        ≤ most_elements }
+    ensures { OnOk result
+        (map initial_of inits.new.items
+        ≡ map initial_of inits.old.items
+        ++ laws.declarators_words (program_in table.now) kind (map declarator_of declarators.now)) }
 {
     let mut rest = declarators;
     'declarators: while let Some((declarator, others)) = rest.split_first() {
@@ -221,7 +235,9 @@ pub fn initial_values(
     externals: &[External],
 ) -> Result<Vec<Init>, AllocError>
     requires few { all_elements_of (unit_of table.now).words (map external_of externals.now) ≤ most_elements }
-    ensures { IfOk result (λ inits. map initial_of inits.items ≡ laws.first_words (program_in table.now) (map external_of externals.now)) }
+    ensures { IfOk result
+        (λ inits. map initial_of inits.items
+        ≡ laws.first_words (program_in table.now) (map external_of externals.now)) }
 {
     let mut inits = Vec::new(alloc);
     let mut rest = externals;

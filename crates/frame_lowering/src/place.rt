@@ -18,7 +18,8 @@ pub struct Place<'b, 'a> {
 
 /// The name of the frame of the result of the function's call of this number.
 pub fn call_name(place: Place<'_, '_>, number: u64) -> Result<Name, AllocError>
-    ensures { IfOk result (λ name. name ≡ names.call_name (program_in place.entry.table.now) place.entry.function number) }
+    ensures { IfOk result
+        (λ name. name ≡ names.call_name (program_in place.entry.table.now) place.entry.function number) }
 {
     numbered_name(
         place.alloc,

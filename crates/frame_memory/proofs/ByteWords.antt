@@ -35,16 +35,19 @@ pub word_sized : (m : FrameMem abstract_sets) → FrameSized abstract_sets m →
     → IfSome (word_in (values_in (map m.bytes (offsets place count)))) (IsOfSize stride_sets (count * 8))
 word_sized m sized place count some few = go (values_in (map m.bytes (offsets place count))) refl
   where
-    of_word : (word : Option Stride) → WordSized abstract_sets word (count * 8) → IfSome word (IsOfSize stride_sets (count * 8))
+    of_word : (word : Option Stride) → WordSized abstract_sets word (count * 8)
+        → IfSome word (IsOfSize stride_sets (count * 8))
     of_word None s = tt
     of_word (Some word) s = s
 
-    go : (words : Option (List Stride)) → values_in (map m.bytes (offsets place count)) ≡ words → IfSome (word_in words) (IsOfSize stride_sets (count * 8))
+    go : (words : Option (List Stride)) → values_in (map m.bytes (offsets place count)) ≡ words
+        → IfSome (word_in words) (IsOfSize stride_sets (count * 8))
     go None is = tt
     go (Some words) is = of_word (concatenated abstract_sets words) (words_sized abstract_sets abstract_is_sets m sized place count words (omega (arith, few)) is)
 
 -- a value and the word of a cell have one size
-pub one_size : (size count : ℕ) (before : Option AbstractValue) (word : Option Stride) → count * 8 ≡ size → IfSome before (IsValue size)
+pub one_size : (size count : ℕ) (before : Option AbstractValue) (word : Option Stride) → count * 8 ≡ size
+    → IfSome before (IsValue size)
     → IfSome word (IsOfSize stride_sets (count * 8)) → HaveSize before (words_of word)
 one_size size count before None all sized of_word = record { size = size; first = sized; second = tt }
 one_size size count before (Some word) all sized of_word = record {
@@ -59,7 +62,8 @@ below None low = None
 below (Some high) low = Some (above_byte high low)
 
 -- some bytes have some words
-some_words : (bytes : ℕ → AbstractByte Stride) (place count : ℕ) → count ≢ 0 → values_in (map bytes (offsets place count)) ≡ Some [] → ⊥
+some_words : (bytes : ℕ → AbstractByte Stride) (place count : ℕ) → count ≢ 0
+    → values_in (map bytes (offsets place count)) ≡ Some [] → ⊥
 some_words bytes place zero some none = some refl
 some_words bytes place (suc count) some none = go (bytes place).value (values_in (map bytes (offsets (suc place) count))) none
   where
@@ -69,7 +73,8 @@ some_words bytes place (suc count) some none = go (bytes place).value (values_in
     go (Some word) (Some words) e = cc
 
 -- the bytes of a list, the lowest and the others
-pub bytes_more : {A : Type 0} (f : List (AbstractByte Stride) → A) (bytes : ℕ → AbstractByte Stride) (place count : ℕ) → count ≢ 0
+pub bytes_more : {A : Type 0} (f : List (AbstractByte Stride) → A) (bytes : ℕ → AbstractByte Stride) (place count : ℕ)
+    → count ≢ 0
     → f (map bytes (offsets place count)) ≡ f (bytes place ∷ map bytes (offsets (place + 1) (count - 1)))
 bytes_more f bytes place count some = ap (λ places. f (map bytes places)) (offsets_more place count some)
 
@@ -86,14 +91,16 @@ pub one_word : (bytes : ℕ → AbstractByte Stride) (place : ℕ) (low : Stride
 one_word bytes place low is = ap (λ word. word_in (and_values word (Some []))) is
 
 -- the word of the lowest byte and of the others
-pub word_more : (bytes : ℕ → AbstractByte Stride) (place count : ℕ) (low : Stride) → count ≢ 0 → count - 1 ≢ 0 → (bytes place).value ≡ Some low
+pub word_more : (bytes : ℕ → AbstractByte Stride) (place count : ℕ) (low : Stride) → count ≢ 0 → count - 1 ≢ 0
+    → (bytes place).value ≡ Some low
     → word_in (values_in (map bytes (offsets place count))) ≡ below (word_in (values_in (map bytes (offsets (place + 1) (count - 1))))) low
 word_more bytes place count low some others is =
     bytes_more (λ taken. word_in (values_in taken)) bytes place count some
     ∙ (ap (λ word. word_in (and_values word (values_in (map bytes (offsets (place + 1) (count - 1)))))) is
     ∙ go (values_in (map bytes (offsets (place + 1) (count - 1)))) (some_words bytes (place + 1) (count - 1) others))
   where
-    go : (words : Option (List Stride)) → (words ≡ Some [] → ⊥) → word_in (and_values (Some low) words) ≡ below (word_in words) low
+    go : (words : Option (List Stride)) → (words ≡ Some [] → ⊥)
+        → word_in (and_values (Some low) words) ≡ below (word_in words) low
     go None not_none = refl
     go (Some []) not_none = absurd (not_none refl)
     go (Some (word ∷ words)) not_none = refl

@@ -20,14 +20,16 @@ there_is (x ∷ xs) (suc place) low none = there_is xs place (omega arith) none
 
 module _ (slots : List HeldSlot) (place : ℕ) (slot : HeldSlot) (than : ℕ) (found : slice_get slots place ≡ Some slot) where
   -- the slot is left
-  pub left_alone : (others : CellChange) → others None ≡ None → ((width : ℕ) → is_cell_size width ≡ true → than < width → cell_of slot width ≡ None)
+  pub left_alone : (others : CellChange) → others None ≡ None
+      → ((width : ℕ) → is_cell_size width ≡ true → than < width → cell_of slot width ≡ None)
       → Becomes slots slots (with_place (frame_of slots) place ((frame_of slots).bytes place) (wider others than ((frame_of slots).cells place)))
   left_alone others keeps none = same_becomes slots place ((frame_of slots).bytes place) (wider others than ((frame_of slots).cells place)) refl
       (λ width. subst (λ (cells : CellsBySize). wider others than cells width ≡ cells width) (sym (cells_found slots place slot found)) (none_wider slot than others keeps none width))
 
   module _ (new : List HeldSlot) (low : place < length slots) where
     -- another slot is put, with the same byte
-    put_wider : (others : CellChange) (changed : HeldSlot) → new ≡ slice_set slots place changed → changed.byte ≡ slot.byte
+    put_wider : (others : CellChange) (changed : HeldSlot) → new ≡ slice_set slots place changed
+        → changed.byte ≡ slot.byte
         → Becomes slots (slice_set slots place changed) (with_place (frame_of slots) place (byte_seen changed.byte) (cell_in (Some changed)))
         → ((width : ℕ) → cell_in (Some changed) width ≡ wider others than (cell_in (Some slot)) width)
         → Becomes slots new (with_place (frame_of slots) place ((frame_of slots).bytes place) (wider others than ((frame_of slots).cells place)))

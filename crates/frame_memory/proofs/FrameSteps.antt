@@ -24,7 +24,8 @@ pub record JoinedUpTo (a b slots : List HeldSlot) (place : ℕ) : Type 0 where
 
 -- ---- lists
 
-get_in : {A : Type 0} (g : ℕ → A) (from count i : ℕ) → i < count → slice_get (map g (offsets from count)) i ≡ Some (g (from + i))
+get_in : {A : Type 0} (g : ℕ → A) (from count i : ℕ) → i < count
+    → slice_get (map g (offsets from count)) i ≡ Some (g (from + i))
 get_in g from zero i low = absurd (omega arith)
 get_in g from (suc count) zero low =
     let e : from ≡ from + 0 = omega arith in
@@ -80,7 +81,8 @@ module _ (a b : List HeldSlot) (canonical : AreCanonical a) (sized : FrameSized 
       let e : 0 + place ≡ place = omega arith in
       get_in (joined_slot a b) 0 (length a) place low ∙ ap (λ (n : ℕ). Some (joined_slot a b n)) e
 
-  own : (place : ℕ) (slot : HeldSlot) → slice_get a place ≡ Some slot → record { byte = slot.byte; cells = table (cell_of slot) } ≡ slot
+  own : (place : ℕ) (slot : HeldSlot) → slice_get a place ≡ Some slot
+      → record { byte = slot.byte; cells = table (cell_of slot) } ≡ slot
   own place slot is =
       same_Some _ slot (sym (ap (option_map (λ (s : HeldSlot). record { byte = s.byte; cells = table (cell_of s) })) is)
       ∙ (sym (slice_get-map (λ (s : HeldSlot). record { byte = s.byte; cells = table (cell_of s) }) a place) ∙ (ap (λ slots. slice_get slots place) canonical ∙ is)))
@@ -92,7 +94,8 @@ module _ (a b : List HeldSlot) (canonical : AreCanonical a) (sized : FrameSized 
     | inr past ↦ get_past a place past ∙ sym (get_out (joined_slot a b) 0 (length a) place past)
   ]
     where
-      go : (o : Option HeldSlot) → slice_get a place ≡ o → place < length a → slice_get a place ≡ slice_get (joined_slots a b) place
+      go : (o : Option HeldSlot) → slice_get a place ≡ o → place < length a
+          → slice_get a place ≡ slice_get (joined_slots a b) place
       go None is low = is ∙ absurd (none_there is low)
         where
           there : (xs : List HeldSlot) (i : ℕ) → slice_get xs i ≡ None → i < length xs → ⊥
@@ -122,7 +125,8 @@ module _ (a b : List HeldSlot) (canonical : AreCanonical a) (sized : FrameSized 
   }
 
   -- the slot of the join is put
-  pub put : (slots : List HeldSlot) (place : ℕ) → JoinedUpTo a b slots place → place < length a → JoinedUpTo a b (slice_set slots place (joined_slot a b place)) (place + 1)
+  pub put : (slots : List HeldSlot) (place : ℕ) → JoinedUpTo a b slots place → place < length a
+      → JoinedUpTo a b (slice_set slots place (joined_slot a b place)) (place + 1)
   put slots place so_far low = record {
     count = set_length slots place (joined_slot a b place) ∙ so_far.count;
     done = λ at below. by_test (at == place)
@@ -139,7 +143,8 @@ module _ (a b : List HeldSlot) (canonical : AreCanonical a) (sized : FrameSized 
   }
 
   -- past the last place the slots are those of the join
-  pub over : (slots : List HeldSlot) (place : ℕ) → JoinedUpTo a b slots place → length a ≤ place → slots ≡ joined_slots a b
+  pub over : (slots : List HeldSlot) (place : ℕ) → JoinedUpTo a b slots place → length a ≤ place
+      → slots ≡ joined_slots a b
   over slots place so_far past =
       same_lists slots (joined_slots a b) (λ at. elim (cases_lt at place) [
         | inl low ↦ so_far.done at low

@@ -15,7 +15,8 @@ use Rattle.memory_rules.specs.AboveLaws.{either_alike}
 -- ---- results
 
 -- the value keeps its size
-pub onto_sized : (size : ℕ) (value : Option AbstractValue) (results : List (Result AbstractValue RunFault)) → IfSome value (IsValue size)
+pub onto_sized : (size : ℕ) (value : Option AbstractValue) (results : List (Result AbstractValue RunFault))
+    → IfSome value (IsValue size)
     → EachSized abstract_sets size results → IfSome (joined_values abstract_sets value results) (IsValue size)
 onto_sized size value [] sized each = sized
 onto_sized size value (Ok set ∷ results) sized each =

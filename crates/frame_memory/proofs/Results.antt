@@ -34,7 +34,8 @@ is_size size is =
     let first : 0 < size / 8 = omega (arith, whole, some) in
     (first, whole, leb-true size 64 bounds.1)
 
-value_sized : (size : ℕ) (value : Option AbstractValue) → IfSome value (IsValue size) → EachSized abstract_sets size (value_result abstract_sets value)
+value_sized : (size : ℕ) (value : Option AbstractValue) → IfSome value (IsValue size)
+    → EachSized abstract_sets size (value_result abstract_sets value)
 value_sized size None s = tt
 value_sized size (Some value) s = (s, tt)
 
@@ -43,7 +44,8 @@ fault_sized size true fault = tt
 fault_sized size false fault = tt
 
 -- what is read of a cell before its bytes has its size
-pub told_sized : (size : ℕ) (before own after : Loaded) (cell : Cell AbstractValue) → IfSome before.value (IsValue size) → IfSome cell.value (IsValue size)
+pub told_sized : (size : ℕ) (before own after : Loaded) (cell : Cell AbstractValue) → IfSome before.value (IsValue size)
+    → IfSome cell.value (IsValue size)
     → own ≡ onto before (value_result abstract_sets cell.value) → after ≡ onto own (told cell.u Uninit) → IfSome after.value (IsValue size)
 told_sized size before own after cell sized of_cell first second =
     let of_own : IfSome own.value (IsValue size) =
@@ -55,33 +57,40 @@ told_sized size before own after cell sized of_cell first second =
 -- ---- a cell as it stands
 
 module _ (m : FrameMem abstract_sets) (offset size : ℕ) where
-  pub kept_stands : (cell : Cell AbstractValue) → Some cell ≡ m.cells offset size → cell ≡ stands abstract_sets m offset size
+  pub kept_stands : (cell : Cell AbstractValue) → Some cell ≡ m.cells offset size
+      → cell ≡ stands abstract_sets m offset size
   kept_stands cell kept = ap (λ c. kept_or c (not_kept (taken abstract_sets m offset size))) kept
 
-  pub bytes_stand : None ≡ m.cells offset size → not_kept (taken abstract_sets m offset size) ≡ stands abstract_sets m offset size
+  pub bytes_stand : None ≡ m.cells offset size
+      → not_kept (taken abstract_sets m offset size) ≡ stands abstract_sets m offset size
   bytes_stand none = ap (λ c. kept_or c (not_kept (taken abstract_sets m offset size))) none
 
-  pub kept_sized : (cell : Cell AbstractValue) → FrameSized abstract_sets m → Some cell ≡ m.cells offset size → IfSome cell.value (IsValue size)
+  pub kept_sized : (cell : Cell AbstractValue) → FrameSized abstract_sets m → Some cell ≡ m.cells offset size
+      → IfSome cell.value (IsValue size)
   kept_sized cell sized kept = sized.kept offset size cell (sym kept)
 
   -- a cell that is known to hold a value gives it alone
-  pub known_is : (cell : Cell AbstractValue) (value : AbstractValue) → Some cell ≡ m.cells offset size → cell ≡ record { value = Some value; u = false; x = false }
+  pub known_is : (cell : Cell AbstractValue) (value : AbstractValue) → Some cell ≡ m.cells offset size
+      → cell ≡ record { value = Some value; u = false; x = false }
       → load_results abstract_sets m offset size ≡ Ok value ∷ []
   known_is cell value kept is = ap (λ (c : Cell AbstractValue). results abstract_sets (taken abstract_sets m offset size) c) (sym (kept_stands cell kept) ∙ is)
 
-  pub known_sized : (cell : Cell AbstractValue) (value : AbstractValue) → FrameSized abstract_sets m → Some cell ≡ m.cells offset size
+  pub known_sized : (cell : Cell AbstractValue) (value : AbstractValue) → FrameSized abstract_sets m
+      → Some cell ≡ m.cells offset size
       → cell ≡ record { value = Some value; u = false; x = false } → IsValue size value
   known_sized cell value sized kept is = subst (λ (c : Cell AbstractValue). IfSome c.value (IsValue size)) is (kept_sized cell sized kept)
 
   -- the results of the cell as it stands are those of a load
-  pub load_is : {E : Type 0} (before : Loaded) (cell : Cell AbstractValue) (result : Result Loaded E) → cell ≡ stands abstract_sets m offset size
+  pub load_is : {E : Type 0} (before : Loaded) (cell : Cell AbstractValue) (result : Result Loaded E)
+      → cell ≡ stands abstract_sets m offset size
       → IfOk result (λ now. now ≡ onto before (results abstract_sets (taken abstract_sets m offset size) cell))
       → IfOk result (λ now. now ≡ onto before (load_results abstract_sets m offset size))
   load_is before cell (Err fault) is h = tt
   load_is before cell (Ok now) is h = h ∙ ap (λ (c : Cell AbstractValue). onto before (results abstract_sets (taken abstract_sets m offset size) c)) is
 
   -- and the value has the size of the cell
-  pub sized_are : {E : Type 0} (before : Loaded) (result : Result Loaded E) → is_cell_size size ≡ true → FrameSized abstract_sets m
+  pub sized_are : {E : Type 0} (before : Loaded) (result : Result Loaded E) → is_cell_size size ≡ true
+      → FrameSized abstract_sets m
       → IfSome before.value (IsValue size) → IfOk result (λ now. now ≡ onto before (load_results abstract_sets m offset size))
       → IfOk result (λ now. IfSome now.value (IsValue size))
   sized_are before (Err fault) is sized of_before h = tt

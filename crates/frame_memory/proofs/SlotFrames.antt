@@ -47,7 +47,8 @@ set_length [] i x = refl
 set_length (y ∷ ys) zero x = refl
 set_length (y ∷ ys) (suc i) x = ap (λ (n : ℕ). suc n) (set_length ys i x)
 
-map_set : (slots : List HeldSlot) (i : ℕ) (slot : HeldSlot) → map canonical (slice_set slots i slot) ≡ slice_set (map canonical slots) i (canonical slot)
+map_set : (slots : List HeldSlot) (i : ℕ) (slot : HeldSlot)
+    → map canonical (slice_set slots i slot) ≡ slice_set (map canonical slots) i (canonical slot)
 map_set [] i slot = refl
 map_set (first ∷ slots) zero slot = refl
 map_set (first ∷ slots) (suc i) slot = ap (λ ss. canonical first ∷ ss) (map_set slots i slot)
@@ -66,7 +67,8 @@ abbrev pub slot_at : Byte → (ℕ → Option Held) → HeldSlot
 slot_at byte f = record { byte = byte; cells = table f }
 
 -- the sizes of cells, one by one
-by_size : (P : ℕ → Type 0) (size : ℕ) → size % 8 ≡ 0 → 0 < size → size ≤ 64 → P 8 → P 16 → P 24 → P 32 → P 40 → P 48 → P 56 → P 64 → P size
+by_size : (P : ℕ → Type 0) (size : ℕ) → size % 8 ≡ 0 → 0 < size → size ≤ 64 → P 8 → P 16 → P 24 → P 32 → P 40 → P 48
+    → P 56 → P 64 → P size
 by_size P size whole some most a b c d e f g h = elim (cases_eq size 8) [
   | inl is ↦ subst P (sym is) a
   | inr not_8 ↦ elim (cases_eq size 16) [
@@ -100,7 +102,8 @@ cell_bounds size is =
     let bounds = and_parts _ _ parts.1 in
     (eqb-true (size % 8) 0 parts.0, ltb-true 0 size bounds.0, leb-true size 64 bounds.1)
 
-table_at : (byte : Byte) (f : ℕ → Option Held) (size : ℕ) → is_cell_size size ≡ true → cell_of (slot_at byte f) size ≡ f size
+table_at : (byte : Byte) (f : ℕ → Option Held) (size : ℕ) → is_cell_size size ≡ true
+    → cell_of (slot_at byte f) size ≡ f size
 table_at byte f size is =
     let bounds = cell_bounds size is in
     by_size (λ (n : ℕ). cell_of (slot_at byte f) n ≡ f n) size bounds.0 bounds.1 bounds.2 refl refl refl refl refl refl refl refl
@@ -125,7 +128,8 @@ with_cell_cells slot size cell width sized =
     rw (is, same) refl)
     (λ differ. rw differ refl)
 
-pub narrow_cells : (slot : HeldSlot) (than width : ℕ) → cell_in (Some (without_wider slot than)) width ≡ wider (λ cell. None) than (cell_in (Some slot)) width
+pub narrow_cells : (slot : HeldSlot) (than width : ℕ)
+    → cell_in (Some (without_wider slot than)) width ≡ wider (λ cell. None) than (cell_in (Some slot)) width
 narrow_cells slot than width =
     cells_in_table slot.byte (λ w. if nat_lt than w then None else cell_of slot w) width ∙ by_test (nat_lt than width)
     (λ wide. by_test (is_cell_size width) (λ is. rw (is, wide) refl) (λ other. rw (other, wide) refl))
@@ -155,10 +159,12 @@ none_wider slot than others keeps none width = by_test (nat_lt than width)
 -- ---- frames
 
 module _ (slots : List HeldSlot) (place : ℕ) where
-  pub byte_found : (slot : HeldSlot) → slice_get slots place ≡ Some slot → (frame_of slots).bytes place ≡ byte_seen slot.byte
+  pub byte_found : (slot : HeldSlot) → slice_get slots place ≡ Some slot
+      → (frame_of slots).bytes place ≡ byte_seen slot.byte
   byte_found slot found = ap byte_in found
 
-  pub cells_found : (slot : HeldSlot) → slice_get slots place ≡ Some slot → (frame_of slots).cells place ≡ cell_in (Some slot)
+  pub cells_found : (slot : HeldSlot) → slice_get slots place ≡ Some slot
+      → (frame_of slots).cells place ≡ cell_in (Some slot)
   cells_found slot found = ap cell_in found
 
   -- a slot is put

@@ -27,19 +27,23 @@ use Rattle.frame_memory.specs.FrameJoins.{seen, SuitWords, SuitValues, with_held
 
 -- ---- sizes
 
-pub stands_sized : (f : FrameMem abstract_sets) → FrameSized abstract_sets f → (offset size : ℕ) → IfSome (stands abstract_sets f offset size).value (IsValue size)
+pub stands_sized : (f : FrameMem abstract_sets) → FrameSized abstract_sets f → (offset size : ℕ)
+    → IfSome (stands abstract_sets f offset size).value (IsValue size)
 stands_sized f sized offset size = go (f.cells offset size) refl
   where
-    go : (kept : Option (Cell AbstractValue)) → f.cells offset size ≡ kept → IfSome (kept_or kept (not_kept (taken abstract_sets f offset size))).value (IsValue size)
+    go : (kept : Option (Cell AbstractValue)) → f.cells offset size ≡ kept
+        → IfSome (kept_or kept (not_kept (taken abstract_sets f offset size))).value (IsValue size)
     go None at = tt
     go (Some cell) at = sized.kept offset size cell at
 
-pub suit_values : (size : ℕ) (a b : Option AbstractValue) → IfSome a (IsValue size) → IfSome b (IsValue size) → SuitValues a b
+pub suit_values : (size : ℕ) (a b : Option AbstractValue) → IfSome a (IsValue size) → IfSome b (IsValue size)
+    → SuitValues a b
 suit_values size None b first second = tt
 suit_values size (Some v) None first second = tt
 suit_values size (Some v) (Some w) first second = alike size v w first second
 
-pub suit_words : (size : ℕ) (a b : Option Stride) → IfSome a (λ word. IsOfSize stride_sets size word) → IfSome b (λ word. IsOfSize stride_sets size word) → SuitWords a b
+pub suit_words : (size : ℕ) (a b : Option Stride) → IfSome a (λ word. IsOfSize stride_sets size word)
+    → IfSome b (λ word. IsOfSize stride_sets size word) → SuitWords a b
 suit_words size None b first second = tt
 suit_words size (Some x) None first second = tt
 suit_words size (Some x) (Some y) first second = first.size ∙ sym second.size
@@ -50,7 +54,8 @@ held_is cell other is = ap (λ (c : Cell AbstractValue). cell_held (Some c)) is
 
 -- ---- cells kept size by size
 
-by_size : (P : ℕ → Type 0) (size : ℕ) → size % 8 ≡ 0 → 0 < size → size ≤ 64 → P 8 → P 16 → P 24 → P 32 → P 40 → P 48 → P 56 → P 64 → P size
+by_size : (P : ℕ → Type 0) (size : ℕ) → size % 8 ≡ 0 → 0 < size → size ≤ 64 → P 8 → P 16 → P 24 → P 32 → P 40 → P 48
+    → P 56 → P 64 → P size
 by_size P size whole some most a b c d e f g h = elim (cases_eq size 8) [
   | inl is ↦ subst P (sym is) a
   | inr not_8 ↦ elim (cases_eq size 16) [
@@ -80,7 +85,8 @@ by_size P size whole some most a b c d e f g h = elim (cases_eq size 8) [
 whole_bytes : (size : ℕ) → is_cell_size size ≡ true → size % 8 ≡ 0
 whole_bytes size is = eqb-true (size % 8) 0 (and_parts _ _ is).0
 
-table_at : (byte : Byte) (f : ℕ → Option Held) (size : ℕ) → is_cell_size size ≡ true → cell_of (record { byte = byte; cells = table f }) size ≡ f size
+table_at : (byte : Byte) (f : ℕ → Option Held) (size : ℕ) → is_cell_size size ≡ true
+    → cell_of (record { byte = byte; cells = table f }) size ≡ f size
 table_at byte f size is =
     let parts = and_parts _ _ is in
     let bounds = and_parts _ _ parts.1 in
@@ -99,7 +105,8 @@ so_far f count size = if nat_lt size (8 * count) then f size else None
 abbrev pub slot_so_far : Byte → (ℕ → Option Held) → ℕ → HeldSlot
 slot_so_far byte f count = record { byte = byte; cells = table (so_far f count) }
 
-so_far_others : (f : ℕ → Option Held) (count size : ℕ) → size % 8 ≡ 0 → size ≢ 8 * count → so_far f count size ≡ so_far f (suc count) size
+so_far_others : (f : ℕ → Option Held) (count size : ℕ) → size % 8 ≡ 0 → size ≢ 8 * count
+    → so_far f count size ≡ so_far f (suc count) size
 so_far_others f count size whole other = by_test (nat_lt size (8 * count))
     (λ low. let below = ltb-true size (8 * count) low in rw (low, lt-ltb size (8 * suc count) (omega (arith, below))) refl)
     (λ high. let above = ltb-false size (8 * count) high in rw (high, le-ltb size (8 * suc count) (omega (arith, above, whole, other))) refl)
@@ -111,10 +118,12 @@ none_so_far : (f : ℕ → Option Held) (count : ℕ) → so_far f count (8 * co
 none_so_far f count = rw (le-ltb (8 * count) (8 * count) (omega arith)) refl
 
 -- the cell of the next size is kept
-pub kept_more : (byte : Byte) (f : ℕ → Option Held) (count : ℕ) → with_held (slot_so_far byte f count) (8 * count) (f (8 * count)) ≡ slot_so_far byte f (suc count)
+pub kept_more : (byte : Byte) (f : ℕ → Option Held) (count : ℕ)
+    → with_held (slot_so_far byte f count) (8 * count) (f (8 * count)) ≡ slot_so_far byte f (suc count)
 kept_more byte f count = go (f (8 * count)) refl
   where
-    go : (cell : Option Held) → f (8 * count) ≡ cell → with_held (slot_so_far byte f count) (8 * count) cell ≡ slot_so_far byte f (suc count)
+    go : (cell : Option Held) → f (8 * count) ≡ cell
+        → with_held (slot_so_far byte f count) (8 * count) cell ≡ slot_so_far byte f (suc count)
     go None none = λ i. record { byte = byte; cells = table_same (so_far f count) (so_far f (suc count)) at i }
       where
         at : (size : ℕ) → is_cell_size size ≡ true → so_far f count size ≡ so_far f (suc count) size
@@ -148,20 +157,24 @@ word_self : (word : Option Stride) → IfSome word (λ x. IsOfSize stride_sets 8
 word_self None sized = refl
 word_self (Some x) sized = ap (λ y. Some y) (stride_self x sized.kept)
 
-option_self : (size : ℕ) (value : Option AbstractValue) → IfSome value (IsValue size) → either joined value value ≡ value
+option_self : (size : ℕ) (value : Option AbstractValue) → IfSome value (IsValue size)
+    → either joined value value ≡ value
 option_self size None sized = refl
 option_self size (Some v) sized = ap (λ w. Some w) (value_self v sized.is)
 
-cell_self : (size : ℕ) (cell : Cell AbstractValue) → IfSome cell.value (IsValue size) → join_cells abstract_sets cell cell ≡ cell
+cell_self : (size : ℕ) (cell : Cell AbstractValue) → IfSome cell.value (IsValue size)
+    → join_cells abstract_sets cell cell ≡ cell
 cell_self size cell sized = λ i. record { value = option_self size cell.value sized i; u = or_self cell.u i; x = or_self cell.x i }
 
 -- the join of a cell that both sides keep, or neither
-cells_self : (size : ℕ) (c : Option (Cell AbstractValue)) (x y : Cell AbstractValue) → ((cell : Cell AbstractValue) → c ≡ Some cell → IfSome cell.value (IsValue size))
+cells_self : (size : ℕ) (c : Option (Cell AbstractValue)) (x y : Cell AbstractValue)
+    → ((cell : Cell AbstractValue) → c ≡ Some cell → IfSome cell.value (IsValue size))
     → (if is_some c || is_some c then Some (join_cells abstract_sets (kept_or c x) (kept_or c y)) else None) ≡ c
 cells_self size None x y sized = refl
 cells_self size (Some cell) x y sized = ap (λ k. Some k) (cell_self size cell (sized cell refl))
 
-byte_self : (byte : Byte) → IfSome byte.value (λ x. IsOfSize stride_sets 8 x) → byte_held (join_bytes abstract_sets (byte_seen byte) (byte_seen byte)) ≡ byte
+byte_self : (byte : Byte) → IfSome byte.value (λ x. IsOfSize stride_sets 8 x)
+    → byte_held (join_bytes abstract_sets (byte_seen byte) (byte_seen byte)) ≡ byte
 byte_self byte sized = λ i. record { value = word_self byte.value sized i; u = or_self byte.u i; p = or_self byte.p i }
 
 -- the slot of a join, of what both sides have there and of cells that are not kept
@@ -172,7 +185,8 @@ joined_of o p x y = record {
       then Some (join_cells abstract_sets (kept_or (cell_in o size) (x size)) (kept_or (cell_in p size) (y size))) else None));
 }
 
-both_the_same : (slot : HeldSlot) (x y : ℕ → Cell AbstractValue) → IfSome slot.byte.value (λ word. IsOfSize stride_sets 8 word)
+both_the_same : (slot : HeldSlot) (x y : ℕ → Cell AbstractValue)
+    → IfSome slot.byte.value (λ word. IsOfSize stride_sets 8 word)
     → ((size : ℕ) (cell : Cell AbstractValue) → cell_in (Some slot) size ≡ Some cell → IfSome cell.value (IsValue size))
     → joined_of (Some slot) (Some slot) x y ≡ record { byte = slot.byte; cells = table (cell_of slot) }
 both_the_same slot x y word cells =
@@ -183,7 +197,8 @@ both_the_same slot x y word cells =
     ∙ (λ i. record { byte = slot.byte; cells = table (λ size. held_seen (cell_of slot size) i) })
 
 -- the join of two frames at a place where both have the same slot
-pub slot_self : (a b : List HeldSlot) (place : ℕ) (slot : HeldSlot) → FrameSized abstract_sets (frame_of a) → slice_get a place ≡ Some slot → slice_get b place ≡ Some slot
+pub slot_self : (a b : List HeldSlot) (place : ℕ) (slot : HeldSlot) → FrameSized abstract_sets (frame_of a)
+    → slice_get a place ≡ Some slot → slice_get b place ≡ Some slot
     → joined_slot a b place ≡ record { byte = slot.byte; cells = table (cell_of slot) }
 slot_self a b place slot sized first second =
     let x = λ (size : ℕ). not_kept (taken abstract_sets (frame_of a) place size) in

@@ -19,7 +19,8 @@ use Rattle.frame_memory.proofs.SlotFrames.{cell_bounds}
 -- ---- frames that agree
 
 -- what begins at a place alone counts there
-pub at_place_same : (place : ℕ) (a b m : FrameMem abstract_sets) → a.bytes place ≡ b.bytes place → ((width : ℕ) → a.cells place width ≡ b.cells place width)
+pub at_place_same : (place : ℕ) (a b m : FrameMem abstract_sets) → a.bytes place ≡ b.bytes place
+    → ((width : ℕ) → a.cells place width ≡ b.cells place width)
     → at_place place a m ≡ at_place place b m
 at_place_same place a b m bytes cells = λ i. record { bytes = λ p. byte_at p i; cells = λ p width. cell_at p width i }
   where
@@ -37,7 +38,8 @@ at_place_same place a b m bytes cells = λ i. record { bytes = λ p. byte_at p i
 abbrev SameAt : FrameMem abstract_sets → FrameMem abstract_sets → ℕ → Type 0
 SameAt a b place = (a.bytes place ≡ b.bytes place) × ((width : ℕ) → a.cells place width ≡ b.cells place width)
 
-below_none : (n : ℕ) (after m : FrameMem abstract_sets) → ((place : ℕ) → place < n → SameAt after m place) → below n after m ≡ m
+below_none : (n : ℕ) (after m : FrameMem abstract_sets) → ((place : ℕ) → place < n → SameAt after m place)
+    → below n after m ≡ m
 below_none n after m same = λ i. record {
   bytes = λ p. byte_at p i;
   cells = λ p width. cell_at p width i;
@@ -49,7 +51,8 @@ below_none n after m same = λ i. record {
     cell_at : (p width : ℕ) → (below n after m).cells p width ≡ m.cells p width
     cell_at p width = by_test (nat_lt p n) (λ low. rw low ((same p (ltb-true p n low)).1 width)) (λ high. rw high refl)
 
-below_all : (n : ℕ) (after m : FrameMem abstract_sets) → ((place : ℕ) → n ≤ place → SameAt after m place) → below n after m ≡ after
+below_all : (n : ℕ) (after m : FrameMem abstract_sets) → ((place : ℕ) → n ≤ place → SameAt after m place)
+    → below n after m ≡ after
 below_all n after m same = λ i. record {
   bytes = λ p. byte_at p i;
   cells = λ p width. cell_at p width i;
@@ -94,7 +97,8 @@ module _ (offset size : ℕ) (new : Cell AbstractValue) (others : CellChange) (b
   module _ (m : FrameMem abstract_sets) (kept : KeepsCells m) (place : ℕ) where
     -- before the cell
     module _ (before : place < offset) where
-      shares : (width : ℕ) → is_cell_size width ≡ true → share_byte offset size place width ≡ nat_lt (8 * (offset - place)) width
+      shares : (width : ℕ) → is_cell_size width ≡ true
+          → share_byte offset size place width ≡ nat_lt (8 * (offset - place)) width
       shares width is =
           let bounds = cell_bounds width is in
           by_test (nat_lt (8 * (offset - place)) width)
@@ -108,7 +112,8 @@ module _ (offset size : ℕ) (new : Cell AbstractValue) (others : CellChange) (b
           let past : place + width / 8 ≤ offset = omega (arith, before, less, bounds.0) in
           rw (small, le-ltb offset (place + width / 8) past) refl)
 
-      before_cells : (width : ℕ) → wider others (8 * (offset - place)) (m.cells place) width ≡ (after m).cells place width
+      before_cells : (width : ℕ)
+          → wider others (8 * (offset - place)) (m.cells place) width ≡ (after m).cells place width
       before_cells width = by_test (is_cell_size width)
           (λ is. sym (cells_off m place width far ∙ rw (shares width is) refl))
           (λ other. none_before width (kept place width other) ∙ sym (none_after width (kept place width other)))
@@ -116,7 +121,8 @@ module _ (offset size : ℕ) (new : Cell AbstractValue) (others : CellChange) (b
           far : place ≢ offset
           far e = absurd (omega (arith, e, before))
 
-          none_before : (width : ℕ) → m.cells place width ≡ None → wider others (8 * (offset - place)) (m.cells place) width ≡ None
+          none_before : (width : ℕ) → m.cells place width ≡ None
+              → wider others (8 * (offset - place)) (m.cells place) width ≡ None
           none_before width none = rw none (either_none (nat_lt (8 * (offset - place)) width) (others None) keeps)
 
           none_shared : (width : ℕ) → m.cells place width ≡ None
@@ -177,7 +183,8 @@ module _ (offset size : ℕ) (new : Cell AbstractValue) (others : CellChange) (b
   ended m kept = below_all (offset + size / 8) (after m) m (λ place high. unchanged m kept place (inr high))
 
   -- one more at each step
-  pub gone_on : (m : FrameMem abstract_sets) (n : ℕ) → at_place n (after (below n (after m) m)) (below n (after m) m) ≡ below (n + 1) (after m) m
+  pub gone_on : (m : FrameMem abstract_sets) (n : ℕ)
+      → at_place n (after (below n (after m) m)) (below n (after m) m) ≡ below (n + 1) (after m) m
   gone_on m n = λ i. record { bytes = λ p. byte_at p i; cells = λ p width. cell_at p width i }
     where
       here : nat_lt n n ≡ false

@@ -56,7 +56,8 @@ module _ (offset size : ℕ) (new : Cell AbstractValue) (others : CellChange) (b
     }
 
     -- what begins at the place is still as it was
-    pub untouched : (slots : List HeldSlot) (place : ℕ) → Becomes first slots (partly place) → (frame_of slots).bytes place ≡ (frame_of first).bytes place
+    pub untouched : (slots : List HeldSlot) (place : ℕ) → Becomes first slots (partly place)
+        → (frame_of slots).bytes place ≡ (frame_of first).bytes place
     untouched slots place so_far = ap (λ (m : FrameMem abstract_sets). m.bytes place) so_far.frame ∙ rw (le-ltb place place (omega arith)) refl
 
     pub ends : (slots : List HeldSlot) (place : ℕ) → place ≡ offset + size / 8 → Becomes first slots (partly place)
@@ -72,7 +73,8 @@ module _ (offset size : ℕ) (new : Cell AbstractValue) (others : CellChange) (b
 other_place : (offset size place width : ℕ) → (place == offset) ≡ false → is_same offset size place width ≡ false
 other_place offset size place width far = rw far refl
 
-same_place : (offset size place width : ℕ) → (place == offset) ≡ true → is_same offset size place width ≡ (width == size)
+same_place : (offset size place width : ℕ) → (place == offset) ≡ true
+    → is_same offset size place width ≡ (width == size)
 same_place offset size place width here = rw here refl
 
 from_start : (offset place : ℕ) → offset ≤ place → (place - offset == 0) ≡ (place == offset)
@@ -82,7 +84,8 @@ from_start offset place low = by_test (place == offset)
     (λ none. let e = eqb-true (place - offset) 0 none in let same : place ≡ offset = omega (arith, e, low) in absurd (false≢true (sym far ∙ eq-eqb place offset same)))
     (λ some. some)))
 
-none_marked : (width : ℕ) (slot : HeldSlot) → wider (with_x abstract_sets) 0 (cell_in (Some slot)) width ≡ with_x abstract_sets (cell_in (Some slot) width)
+none_marked : (width : ℕ) (slot : HeldSlot)
+    → wider (with_x abstract_sets) 0 (cell_in (Some slot)) width ≡ with_x abstract_sets (cell_in (Some slot) width)
 none_marked width slot = go width
   where
     go : (w : ℕ) → wider (with_x abstract_sets) 0 (cell_in (Some slot)) w ≡ with_x abstract_sets (cell_in (Some slot) w)
@@ -119,7 +122,8 @@ module _ (offset size place : ℕ) (value : AbstractValue) (slot : HeldSlot) (ce
   mixed_canonical : canonical (mixed_slot slot (place - offset) size cell value) ≡ mixed_slot slot (place - offset) size cell value
   mixed_canonical = by_test (place - offset == 0) (λ here. rw here refl) (λ far. rw far refl)
 
-  all_marked : (width : ℕ) → cell_in (Some (mixed slot (place - offset) value)) width ≡ with_x abstract_sets (cell_in (Some slot) width)
+  all_marked : (width : ℕ)
+      → cell_in (Some (mixed slot (place - offset) value)) width ≡ with_x abstract_sets (cell_in (Some slot) width)
   all_marked width = marked_cells slot 0 width ∙ none_marked width slot
 
   mixed_cells : (width : ℕ) → cell_in (Some (mixed_slot slot (place - offset) size cell value)) width
@@ -148,7 +152,8 @@ module _ (old new : List HeldSlot) (offset size place : ℕ) (value : AbstractVa
       (before_is offset size (known_seen value) (λ cell. None) (λ b was. new_byte abstract_sets value (b - offset)) sized refl (frame_of old) (frames_keep_cells old) place before) done
 
   -- and in it
-  pub strong_inside : offset ≤ place → place < offset + size / 8 → place < length old → new ≡ slice_set old place (lone_slot (place - offset) size value)
+  pub strong_inside : offset ≤ place → place < offset + size / 8 → place < length old
+      → new ≡ slice_set old place (lone_slot (place - offset) size value)
       → Becomes old new (at_place place (strongly (frame_of old)) (frame_of old))
   strong_inside low high there put =
       subst (λ slots. Becomes old slots (at_place place (strongly (frame_of old)) (frame_of old))) (sym put)
@@ -158,7 +163,8 @@ module _ (old new : List HeldSlot) (offset size place : ℕ) (value : AbstractVa
       (put_becomes old place (lone_slot (place - offset) size value) there (lone_canonical offset size place value sized low)))
 
   -- and in it, after the first place
-  pub strong_later : offset < place → place < offset + size / 8 → place < length old → new ≡ slice_set old place (bare (byte_held (new_byte abstract_sets value (place - offset))))
+  pub strong_later : offset < place → place < offset + size / 8 → place < length old
+      → new ≡ slice_set old place (bare (byte_held (new_byte abstract_sets value (place - offset))))
       → Becomes old new (at_place place (strongly (frame_of old)) (frame_of old))
   strong_later after high there put =
       let far : (place - offset == 0) ≡ false = ne_eqb (place - offset) 0 (λ e. absurd (omega (arith, e, after))) in
@@ -227,7 +233,8 @@ module _ (old new : List HeldSlot) (offset size place : ℕ) (cell : Held) (valu
       (before_is offset size stored_cell (with_x abstract_sets) byte_change sized refl (frame_of old) (frames_keep_cells old) place before) done
 
   -- and in it
-  pub weak_inside : offset ≤ place → place < offset + size / 8 → place < length old → IsMixedAt old new place (place - offset) size cell value
+  pub weak_inside : offset ≤ place → place < offset + size / 8 → place < length old
+      → IsMixedAt old new place (place - offset) size cell value
       → Becomes old new (at_place place (weakened (frame_of old)) (frame_of old))
   weak_inside low high there is =
       subst (λ slots. Becomes old slots (at_place place (weakened (frame_of old)) (frame_of old))) (sym is.put)
@@ -273,7 +280,8 @@ module _ (old new : List HeldSlot) (offset size : ℕ) (value : AbstractValue) (
       (put_becomes old offset (with_cell slot size (known value)) low refl))
 
 -- a pin to what is there changes nothing
-pub pinned_before : (m : FrameMem abstract_sets) (offset size : ℕ) (value : AbstractValue) → m.cells offset size ≡ Some (known_seen value) → m ≡ pinned abstract_sets m offset size value
+pub pinned_before : (m : FrameMem abstract_sets) (offset size : ℕ) (value : AbstractValue)
+    → m.cells offset size ≡ Some (known_seen value) → m ≡ pinned abstract_sets m offset size value
 pinned_before m offset size value kept = λ i. record { bytes = m.bytes; cells = λ place width. same place width i }
   where
     same : (place width : ℕ) → m.cells place width ≡ (if is_same offset size place width then Some (known_seen value) else m.cells place width)

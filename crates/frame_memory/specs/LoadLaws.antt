@@ -33,7 +33,8 @@ faults_more set (Ok value ∷ xs) ys = faults_more set xs ys
 faults_more set (Err fault ∷ xs) ys = faults_more (with_fault set fault) xs ys
 
 -- results one after the other
-pub onto_more : (before : Loaded) (xs ys : List (Result AbstractValue RunFault)) → onto before (xs ++ ys) ≡ onto (onto before xs) ys
+pub onto_more : (before : Loaded) (xs ys : List (Result AbstractValue RunFault))
+    → onto before (xs ++ ys) ≡ onto (onto before xs) ys
 onto_more before xs ys = λ i. record { value = values_more before.value xs ys i; faults = faults_more before.faults xs ys i }
 
 -- ---- faults
@@ -66,33 +67,39 @@ same_or_not a b = elim (cases_eq (number a) (number b)) [
 ]
 
 -- a fault that is in a set with one more, and one that stays
-one_more : (set : FaultSet) (fault sought : RunFault) → has_fault (with_fault set fault) sought ≡ true → (sought ≡ fault) ⊎ (has_fault set sought ≡ true)
+one_more : (set : FaultSet) (fault sought : RunFault) → has_fault (with_fault set fault) sought ≡ true
+    → (sought ≡ fault) ⊎ (has_fault set sought ≡ true)
 one_more set fault sought h = elim (same_or_not fault sought) [
   | inl same ↦ inl (sym same)
   | inr apart ↦ inr (sym (is_kept set fault sought apart) ∙ h)
 ]
 
-stays : (set : FaultSet) (fault sought : RunFault) → has_fault set sought ≡ true → has_fault (with_fault set fault) sought ≡ true
+stays : (set : FaultSet) (fault sought : RunFault) → has_fault set sought ≡ true
+    → has_fault (with_fault set fault) sought ≡ true
 stays set fault sought h = elim (same_or_not fault sought) [
   | inl same ↦ subst (λ (k : RunFault). has_fault (with_fault set fault) k ≡ true) same (is_new set fault)
   | inr apart ↦ is_kept set fault sought apart ∙ h
 ]
 
-told_before : (set : FaultSet) (faults : List RunFault) (sought : RunFault) → has_fault set sought ≡ true → has_fault (with_faults set faults) sought ≡ true
+told_before : (set : FaultSet) (faults : List RunFault) (sought : RunFault) → has_fault set sought ≡ true
+    → has_fault (with_faults set faults) sought ≡ true
 told_before set [] sought h = h
 told_before set (fault ∷ faults) sought h = told_before (with_fault set fault) faults sought (stays set fault sought h)
 
-told_among : (set : FaultSet) (faults : List RunFault) (sought : RunFault) → Contains faults sought → has_fault (with_faults set faults) sought ≡ true
+told_among : (set : FaultSet) (faults : List RunFault) (sought : RunFault) → Contains faults sought
+    → has_fault (with_faults set faults) sought ≡ true
 told_among set [] sought among = absurd (contains_none sought among)
 told_among set (fault ∷ faults) sought among = elim (contains_cases fault faults sought among) [
   | inl same ↦ told_before (with_fault set fault) faults sought (subst (λ (k : RunFault). has_fault (with_fault set fault) k ≡ true) (sym same) (is_new set fault))
   | inr rest ↦ told_among (with_fault set fault) faults sought rest
 ]
 
-contains_later : (fault : RunFault) (faults : List RunFault) (sought : RunFault) → Contains faults sought → Contains (fault ∷ faults) sought
+contains_later : (fault : RunFault) (faults : List RunFault) (sought : RunFault) → Contains faults sought
+    → Contains (fault ∷ faults) sought
 contains_later fault faults sought among = (suc among.0, omega (arith, among.1), among.2)
 
-told_only : (set : FaultSet) (faults : List RunFault) (sought : RunFault) → has_fault (with_faults set faults) sought ≡ true
+told_only : (set : FaultSet) (faults : List RunFault) (sought : RunFault)
+    → has_fault (with_faults set faults) sought ≡ true
     → (has_fault set sought ≡ true) ⊎ Contains faults sought
 told_only set [] sought h = inl h
 told_only set (fault ∷ faults) sought h = elim (told_only (with_fault set fault) faults sought h) [
@@ -108,6 +115,7 @@ pub faults_told : (set : FaultSet) (faults : List RunFault) (sought : RunFault)
     → (has_fault (with_faults set faults) sought ≡ true) ↔ ((has_fault set sought ≡ true) ⊎ Contains faults sought)
 faults_told set faults sought = (told_only set faults sought, either_told)
   where
-    either_told : (has_fault set sought ≡ true) ⊎ Contains faults sought → has_fault (with_faults set faults) sought ≡ true
+    either_told : (has_fault set sought ≡ true) ⊎ Contains faults sought
+        → has_fault (with_faults set faults) sought ≡ true
     either_told (inl h) = told_before set faults sought h
     either_told (inr among) = told_among set faults sought among

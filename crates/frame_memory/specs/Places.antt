@@ -101,7 +101,8 @@ weakly m offset size cell value =
     stored_frame m offset size cell (with_x abstract_sets) (λ b old. weak_byte abstract_sets old (new_byte abstract_sets value (b - offset)))
 
 -- the slot at the place was mixed
-pub record IsMixedAt (old slots : List HeldSlot) (place at size : ℕ) (cell : Held) (value : AbstractValue) : Type 0 where
+pub record IsMixedAt (old slots : List HeldSlot) (place at size : ℕ) (cell : Held)
+    (value : AbstractValue) : Type 0 where
   pub slot : HeldSlot
   pub there : slice_get old place ≡ Some slot
   pub put : slots ≡ slice_set old place (mixed_slot slot at size cell value)

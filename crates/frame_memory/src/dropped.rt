@@ -27,7 +27,10 @@ pub(crate) fn drop_wider(
     than: u32,
 ) -> Result<(), AllocError>
     requires { place < length slots.old }
-    ensures { OnOk result (Becomes slots.old slots.new (with_place (frame_of slots.old) place ((frame_of slots.old).bytes place) (wider (λ cell. None) than ((frame_of slots.old).cells place)))) }
+    ensures { OnOk result
+        (Becomes slots.old slots.new
+        (with_place (frame_of slots.old) place ((frame_of slots.old).bytes place)
+        (wider (λ cell. None) than ((frame_of slots.old).cells place)))) }
 {
     let Some(slot) = slots.slot(place) else {
         return Ok(());

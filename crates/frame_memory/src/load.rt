@@ -31,7 +31,8 @@ fn bytes_onto(
     requires size { is_cell_size size ≡ true }
     requires frame_sized { FrameSized abstract_sets (frame_of slots.now) }
     requires before_sized { IfSome before.value (IsValue size) }
-    ensures { IfOk result (λ now. now ≡ onto before (from_bytes abstract_sets (taken abstract_sets (frame_of slots.now) offset size))) }
+    ensures { IfOk result
+        (λ now. now ≡ onto before (from_bytes abstract_sets (taken abstract_sets (frame_of slots.now) offset size))) }
 {
     let place = offset as usize;
     let word = word_of_bytes(slots, place, size / 8);
@@ -56,12 +57,13 @@ fn known_in(cell: &KeptCell) -> Option<&AVal>
     }
 }
 
-/// The value of the cell of this size in bits at an offset, where the cell is known to hold it: it is all that a load of
-/// the cell gives. Takes no memory.
+/// The value of the cell of this size in bits at an offset, where the cell is known to hold it: it is all that a load
+/// of the cell gives. Takes no memory.
 pub fn known_value(slots: &FrameSlots, offset: u32, size: u32) -> Option<&AVal>
     requires size { is_cell_size size ≡ true }
     requires frame_sized { FrameSized abstract_sets (frame_of slots.now) }
-    ensures value { IfSome result (λ value. load_results abstract_sets (frame_of slots.now) offset size ≡ Ok value.now ∷ []) }
+    ensures value { IfSome result
+        (λ value. load_results abstract_sets (frame_of slots.now) offset size ≡ Ok value.now ∷ []) }
     ensures sized { IfSome result (λ value. IsValue size value.now) }
 {
     match kept_cell(slots, offset, size) {
@@ -90,7 +92,10 @@ fn cell_onto(
     requires frame_sized { FrameSized abstract_sets (frame_of slots.now) }
     requires cell_sized { IfSome cell.now.cell.value (IsValue size) }
     requires before_sized { IfSome before.value (IsValue size) }
-    ensures { IfOk result (λ now. now ≡ onto before (results abstract_sets (taken abstract_sets (frame_of slots.now) offset size) (seen cell.now.cell))) }
+    ensures { IfOk result
+        (λ now. now
+        ≡ onto before
+        (results abstract_sets (taken abstract_sets (frame_of slots.now) offset size) (seen cell.now.cell))) }
 {
     let own = value_onto(alloc, before, cell.value())?;
     let told = fault_onto(own, cell.u(), RunFault::Uninit);
@@ -112,8 +117,13 @@ pub fn load_onto(
     requires size { is_cell_size size ≡ true }
     requires frame_sized { FrameSized abstract_sets (frame_of slots.now) }
     requires before_sized { IfSome before.value (IsValue size) }
-    ensures onto { IfOk result (λ now. now ≡ onto before (load_results abstract_sets (frame_of slots.now) offset size)) }
-    ensures faults { IfOk result (λ now. (kind : RunFault) → (has_fault now.faults kind ≡ true) ↔ ((has_fault before.faults kind ≡ true) ⊎ Contains (faults_of abstract_sets (load_results abstract_sets (frame_of slots.now) offset size)) kind)) }
+    ensures onto { IfOk result
+        (λ now. now ≡ onto before (load_results abstract_sets (frame_of slots.now) offset size)) }
+    ensures faults { IfOk result
+        (λ now. (kind : RunFault)
+        → (has_fault now.faults kind ≡ true)
+        ↔ ((has_fault before.faults kind ≡ true)
+        ⊎ Contains (faults_of abstract_sets (load_results abstract_sets (frame_of slots.now) offset size)) kind)) }
     ensures sized { IfOk result (λ now. IfSome now.value (IsValue size)) }
 {
     match kept_cell(slots, offset, size) {

@@ -19,7 +19,10 @@ pub(crate) fn mark_wider(
     than: u32,
 ) -> Result<(), AllocError>
     requires { place < length slots.old }
-    ensures { OnOk result (Becomes slots.old slots.new (with_place (frame_of slots.old) place ((frame_of slots.old).bytes place) (wider (with_x abstract_sets) than ((frame_of slots.old).cells place)))) }
+    ensures { OnOk result
+        (Becomes slots.old slots.new
+        (with_place (frame_of slots.old) place ((frame_of slots.old).bytes place)
+        (wider (with_x abstract_sets) than ((frame_of slots.old).cells place)))) }
 {
     let Some(slot) = slots.slot(place) else {
         return Ok(());

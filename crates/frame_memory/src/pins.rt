@@ -58,7 +58,8 @@ pub fn pin(
 ) -> Result<(), AllocError>
     requires size { is_cell_size size ≡ true }
     requires fits { offset + size / 8 ≤ length slots.old }
-    ensures pinned { OnOk result (frame_of slots.new ≡ pinned abstract_sets (frame_of slots.old) offset size (alone (Words words))) }
+    ensures pinned { OnOk result
+        (frame_of slots.new ≡ pinned abstract_sets (frame_of slots.old) offset size (alone (Words words))) }
     ensures length { OnOk result (length slots.new ≡ length slots.old) }
     ensures canonical { OnOk result (AreCanonical slots.old → AreCanonical slots.new) }
 {

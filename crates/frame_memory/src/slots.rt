@@ -37,7 +37,8 @@ fn is_bare(slots: &FrameSlots, place: usize, byte: &Byte) -> bool
     }
 }
 
-/// Puts a slot with this byte, at which no cell begins, unless it is there. After want of memory the slots are given up.
+/// Puts a slot with this byte, at which no cell begins, unless it is there. After want of memory the slots are given
+/// up.
 pub(crate) fn put_bare(
     alloc: Global,
     slots: &mut FrameSlots,

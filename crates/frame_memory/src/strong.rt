@@ -38,7 +38,9 @@ fn store_first(
     requires size { is_cell_size size ≡ true }
     requires fits { offset + size / 8 ≤ length slots.old }
     requires value { IsValue size value.now }
-    ensures { OnOk result (Becomes slots.old slots.new (at_place offset (strong abstract_sets (frame_of slots.old) offset size value.now) (frame_of slots.old))) }
+    ensures { OnOk result
+        (Becomes slots.old slots.new
+        (at_place offset (strong abstract_sets (frame_of slots.old) offset size value.now) (frame_of slots.old))) }
 {
     let byte = new_byte(value, 0);
     if is_stored(slots, offset, size, value, &byte) {
@@ -62,7 +64,9 @@ fn store_byte(
     requires inside { place < offset + size / 8 }
     requires fits { offset + size / 8 ≤ length slots.old }
     requires value { IsValue size value.now }
-    ensures { OnOk result (Becomes slots.old slots.new (at_place place (strong abstract_sets (frame_of slots.old) offset size value.now) (frame_of slots.old))) }
+    ensures { OnOk result
+        (Becomes slots.old slots.new
+        (at_place place (strong abstract_sets (frame_of slots.old) offset size value.now) (frame_of slots.old))) }
 {
     let byte = new_byte(value, (place - offset as usize) as u32);
     put_bare(alloc, slots, place, &byte)
@@ -82,7 +86,9 @@ fn store_at(
     requires inside { place < offset + size / 8 }
     requires fits { offset + size / 8 ≤ length slots.old }
     requires value { IsValue size value.now }
-    ensures { OnOk result (Becomes slots.old slots.new (at_place place (strong abstract_sets (frame_of slots.old) offset size value.now) (frame_of slots.old))) }
+    ensures { OnOk result
+        (Becomes slots.old slots.new
+        (at_place place (strong abstract_sets (frame_of slots.old) offset size value.now) (frame_of slots.old))) }
 {
     let start = offset as usize;
     if place < start {
@@ -107,7 +113,8 @@ pub fn store_strongly(
     requires size { is_cell_size size ≡ true }
     requires fits { offset + size / 8 ≤ length slots.old }
     requires value { IsValue size value.now }
-    ensures stored { OnOk result (frame_of slots.new ≡ strong abstract_sets (frame_of slots.old) offset size value.now) }
+    ensures stored { OnOk result
+        (frame_of slots.new ≡ strong abstract_sets (frame_of slots.old) offset size value.now) }
     ensures length { OnOk result (length slots.new ≡ length slots.old) }
     ensures canonical { OnOk result (AreCanonical slots.old → AreCanonical slots.new) }
 {

@@ -34,7 +34,9 @@ fn store_at(
     requires fits { offset + size / 8 ≤ length slots.old }
     requires value { IsValue size value.now }
     requires byte { IfSome ((frame_of slots.old).bytes place).value (λ word. word.size ≡ 8) }
-    ensures { OnOk result (Becomes slots.old slots.new (at_place place (weakly (frame_of slots.old) offset size (seen cell.now) value.now) (frame_of slots.old))) }
+    ensures { OnOk result
+        (Becomes slots.old slots.new
+        (at_place place (weakly (frame_of slots.old) offset size (seen cell.now) value.now) (frame_of slots.old))) }
 {
     let start = offset as usize;
     if place < start {

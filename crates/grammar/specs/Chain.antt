@@ -1,4 +1,5 @@
--- Chains: a first value, and then parts of which each takes in the value so far, as operators of one rank do from left to right.
+-- Chains: a first value, and then parts of which each takes in the value so far, as operators of one rank do from left
+-- to right.
 --   InTurn goes_on p n x at y rest   n parts, of which the first takes in x, lead to y
 --   chain goes_on p x                as many parts as the chain goes on for
 --   grow goes_on p x                 the same as a rule
@@ -26,7 +27,8 @@ module _ {T R F A : Type 0} (goes_on : A → At T R → Bool) (p : A → Form T 
   }
 
   module _ (hp : (x : A) → IsExact true (p x)) where
-    chain_joined : (x : A) (at : At T R) (o : goes_on x at ≡ true) (z : A × At T R) → (p x).Spells at z.0 z.1 → (r : Result (A × At T R) F) → Says (chain z.0) z.1 r → Says (chain x) at r
+    chain_joined : (x : A) (at : At T R) (o : goes_on x at ≡ true) (z : A × At T R) → (p x).Spells at z.0 z.1
+        → (r : Result (A × At T R) F) → Says (chain z.0) z.1 r → Says (chain x) at r
     chain_joined x at o z hs (Ok y) h = ((suc h.0.0, (o, (z.0, z.1, hs, h.0.1))), h.1)
     chain_joined x at o z hs (Err f) h = (suc h.0, h.1, h.2, (o, (z.0, z.1, hs, h.3)), h.4, h.5)
 
@@ -44,7 +46,8 @@ module _ {T R F A : Type 0} (goes_on : A → At T R → Bool) (p : A → Form T 
     chain_holds zero x at lt = absurd (omega arith)
     chain_holds (suc n) x at lt = chain_at n (chain_holds n) x at lt (goes_on x at) refl
 
-    chain_ok : (n k : ℕ) (x : A) (at : At T R) → left at < n → (y : A) (rest : At T R) → InTurn k x at y rest → goes_on y rest ≡ false → in_turn n x at ≡ Ok (y, rest)
+    chain_ok : (n k : ℕ) (x : A) (at : At T R) → left at < n → (y : A) (rest : At T R) → InTurn k x at y rest
+        → goes_on y rest ≡ false → in_turn n x at ≡ Ok (y, rest)
     chain_ok zero k x at lt y rest h o = absurd (omega arith)
     chain_ok (suc n) zero x at lt y rest h o = let o' : goes_on x at ≡ false = (rw (h.0, h.1) at o) in rw (o', h.0, h.1) refl
     chain_ok (suc n) (suc k) x at lt y rest h o =
@@ -54,7 +57,8 @@ module _ {T R F A : Type 0} (goes_on : A → At T R → Bool) (p : A → Form T 
         let less : left mid < left at = (hp x).shrinks at (z, mid) e in
         rw (h.0, e) (chain_ok n k z mid (omega arith) y rest h.1.3 o)
 
-    chain_err : (n k : ℕ) (x : A) (at : At T R) → left at < n → (y : A) (mid : At T R) (f : F) → InTurn k x at y mid → goes_on y mid ≡ true → (p y).Departs mid f → in_turn n x at ≡ Err f
+    chain_err : (n k : ℕ) (x : A) (at : At T R) → left at < n → (y : A) (mid : At T R) (f : F) → InTurn k x at y mid
+        → goes_on y mid ≡ true → (p y).Departs mid f → in_turn n x at ≡ Err f
     chain_err zero k x at lt y mid f h o d = absurd (omega arith)
     chain_err (suc n) zero x at lt y mid f h o d =
         let o' : goes_on x at ≡ true = (rw (h.0, h.1) at o) in
@@ -71,7 +75,8 @@ module _ {T R F A : Type 0} (goes_on : A → At T R → Bool) (p : A → Form T 
     chain_alone x at (Ok y) h = chain_ok (suc (left at)) h.0.0 x at (omega arith) y.0 y.1 h.0.1 h.1
     chain_alone x at (Err f) h = chain_err (suc (left at)) h.0 x at (omega arith) h.1 h.2 f h.3 h.4 h.5
 
-    same_left : (a : A) (rest : At T R) (x : A × At T R) → ◌≡◌ {A = Result (A × At T R) F} (Ok (a, rest)) (Ok x) → left x.1 ≤ left rest
+    same_left : (a : A) (rest : At T R) (x : A × At T R) → ◌≡◌ {A = Result (A × At T R) F} (Ok (a, rest)) (Ok x)
+        → left x.1 ≤ left rest
     same_left a rest x e = let g : left rest ≡ left x.1 = ap (λ (r : A × At T R). left r.1) (ok_is {F = F} (a, rest) x e) in omega arith
 
     chain_first_shrinks : (n : ℕ) (ih : (y : A) (bt : At T R) (z : A × At T R) → in_turn n y bt ≡ Ok z → left z.1 ≤ left bt) (x : A) (at : At T R) (y : A × At T R)

@@ -14,5 +14,6 @@ pub record Reading (R E : Type 0) : Type 1 where
   -- the fault of an error, or none where memory ran out
   pub fault_of : E → Option Fault
 
-abbrev pub Reads : {R E X Y : Type 0} {some : Bool} (reading : Reading R E) → Rule reading.Token reading.Room reading.Fault some Y → (X → Y) → Result X E → R → R → Type 0
+abbrev pub Reads : {R E X Y : Type 0} {some : Bool} (reading : Reading R E)
+    → Rule reading.Token reading.Room reading.Fault some Y → (X → Y) → Result X E → R → R → Type 0
 Reads reading rule view result before after = Gives reading.fault_of (λ x. (view x, reading.position after)) result (rule.form.reading (reading.position before))

@@ -16,22 +16,27 @@ same_room [] room = refl
 same_room (x ∷ xs) room = same_room xs room
 
 -- the tokens of marks before those of others
-before_append : {T M : Type 0} (of : Printing T M) (more : List T) (xs ys : List M) → tokens of more (xs ++ ys) ≡ tokens of (tokens of more ys) xs
+before_append : {T M : Type 0} (of : Printing T M) (more : List T) (xs ys : List M)
+    → tokens of more (xs ++ ys) ≡ tokens of (tokens of more ys) xs
 before_append of more [] ys = refl
 before_append {T = T} of more (x ∷ xs) ys = ap (λ (ts : List T). of.before ts x ∷ ts) (before_append of more xs ys)
 
 -- what reading computes is spelled
-pub reads_spells : {T R F A : Type 0} {some : Bool} (p : Rule T R F some A) (at : At T R) (x : A) (rest : At T R) → p.form.reading at ≡ Ok (x, rest) → p.form.Spells at x rest
+pub reads_spells : {T R F A : Type 0} {some : Bool} (p : Rule T R F some A) (at : At T R) (x : A) (rest : At T R)
+    → p.form.reading at ≡ Ok (x, rest) → p.form.Spells at x rest
 reads_spells p at x rest e = subst (Says p.form at) e (p.exact.holds at)
 
-row_prints : {A M : Type 0} (fits : M → Bool) (marks : A → List M) (Fine : A → Type 0) → ((x : A) → Fine x → list_all fits (marks x) ≡ true) → (xs : List A) → All Fine xs → list_all fits (flat_map marks xs) ≡ true
+row_prints : {A M : Type 0} (fits : M → Bool) (marks : A → List M) (Fine : A → Type 0)
+    → ((x : A) → Fine x → list_all fits (marks x) ≡ true) → (xs : List A) → All Fine xs
+    → list_all fits (flat_map marks xs) ≡ true
 row_prints fits marks Fine each [] all = refl
 row_prints fits marks Fine each (x ∷ xs) all = rw (list_all-append fits (marks x) (flat_map marks xs), each x (All-head Fine x xs all)) (row_prints fits marks Fine each xs (All-tail Fine x xs all))
 
 module _ {T R F M A : Type 0} (of : Printing T M) (goes_on : At T R → Bool) (p : Rule T R F true A) (marks : A → List M) (need : A → R → R) (Fine : A → Type 0)
     (begins : (x : A) → Fine x → (more : List T) (room : R) → goes_on (place (tokens of more (marks x)) (need x room)) ≡ true)
     (each : (x : A) → Fine x → (more : List T) (room : R) → p.form.reading (place (tokens of more (marks x)) (need x room)) ≡ Ok (x, place more room)) where
-  in_a_row_of : (xs : List A) → All Fine xs → (more : List T) (room : R) → InARow goes_on p.form (place (tokens of more (flat_map marks xs)) (row_room need xs room)) xs (place more room)
+  in_a_row_of : (xs : List A) → All Fine xs → (more : List T) (room : R)
+      → InARow goes_on p.form (place (tokens of more (flat_map marks xs)) (row_room need xs room)) xs (place more room)
   in_a_row_of [] all more room = refl
   in_a_row_of (x ∷ xs) all more room =
       let others = place (tokens of more (flat_map marks xs)) (row_room need xs room) in
@@ -40,7 +45,8 @@ module _ {T R F M A : Type 0} (of : Printing T M) (goes_on : At T R → Bool) (p
       (begins x w others.ahead others.room, (others, reads_spells p _ x _ (each x w others.ahead others.room), in_a_row_of xs (All-tail Fine x xs all) more room))
 
 module _ {T R F M : Type 0} {of : Printing T M} where
-  pub value_writes : {A : Type 0} {goes_on : At T R → Bool} {room : R} {x : A} → Writes of goes_on [] (made {F = F} x) [] room room x
+  pub value_writes : {A : Type 0} {goes_on : At T R → Bool} {room : R} {x : A}
+      → Writes of goes_on [] (made {F = F} x) [] room room x
   value_writes = record { prints = refl; reads = λ more free. refl }
 
   -- the first part does not go on with the second
@@ -68,7 +74,8 @@ module _ {T R F M : Type 0} {of : Printing T M} where
   as_value h = record { prints = h.prints; reads = λ more free. rw (h.reads more free) refl }
 
   -- the end is written too
-  pub ended : {A : Type 0} {goes : At T R → Bool} {end xs : List M} {p : Form T R F A} {a b : R} {x : A} → list_all of.fits end ≡ true → Writes of goes end p xs a b x → Writes of goes [] p (xs ++ end) a b x
+  pub ended : {A : Type 0} {goes : At T R → Bool} {end xs : List M} {p : Form T R F A} {a b : R} {x : A}
+      → list_all of.fits end ≡ true → Writes of goes end p xs a b x → Writes of goes [] p (xs ++ end) a b x
   ended {end = end} {xs = xs} h i = record { prints = rw (list_all-append of.fits xs end, i.prints) h; reads = λ more free. rw (before_append of more xs end) (i.reads more free) }
 
   -- a text groups its parts to the left

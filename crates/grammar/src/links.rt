@@ -35,7 +35,8 @@ pub trait Link<R>: Sized {
 
 /// The value after as many parts as the chain goes on for.
 pub fn grow<R, L: Link<R>>(link: &L, value: L::Value, reader: &mut R) -> Result<L::Value, L::Error>
-    ensures { Reads L.reading (grow (L.goes_on link.now) (L.rule link.now) (L.view value)) L.view result reader.old reader.new }
+    ensures { Reads L.reading (grow (L.goes_on link.now) (L.rule link.now) (L.view value)) L.view result reader.old
+        reader.new }
 {
     let mut value = value;
     while link.begins(&value, reader) {

@@ -48,7 +48,8 @@ pub fn many<R, P: Part<R>>(
     part: &P,
     reader: &mut R,
 ) -> Result<Vec<P::Value>, P::Error>
-    ensures { Reads P.reading (many (P.goes_on part.now) (P.rule part.now)) (λ x. map P.view x.items) result reader.old reader.new }
+    ensures { Reads P.reading (many (P.goes_on part.now) (P.rule part.now)) (λ x. map P.view x.items) result reader.old
+        reader.new }
 {
     let mut values = Vec::new(alloc);
     while part.begins(reader) {

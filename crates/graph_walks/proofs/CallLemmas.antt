@@ -6,7 +6,8 @@ use Rattle.graph_walks.specs.Walks.{Walk, stays, goes_on}
 use Rattle.graph_walks.specs.Calls.{Calls, IsRanked, RanksRuleOutCycles}
 
 -- ranks do not rise along calls
-pub ranks_fall : (calls : List (List ℕ)) (ranks : List ℕ) → IsRanked calls ranks → (f g : ℕ) (path : List ℕ) → Walk (Calls calls) f g path → get_or ranks g 0 ≤ get_or ranks f 0
+pub ranks_fall : (calls : List (List ℕ)) (ranks : List ℕ) → IsRanked calls ranks → (f g : ℕ) (path : List ℕ)
+    → Walk (Calls calls) f g path → get_or ranks g 0 ≤ get_or ranks f 0
 ranks_fall calls ranks r f g path stays = omega arith
 ranks_fall calls ranks r f g path (goes_on {u = u} {v = v} {path = before} way call) =
     let low = ranks_fall calls ranks r f u before way in let lower = r.falls u v call in omega arith

@@ -27,7 +27,8 @@ ends_not front last e = let long = ap length e in let more = length-append front
 
 module _ (table : List (List ℕ)) (old : List Bool) (from : ℕ) (goal : Option ℕ) where
   -- at first the node alone is marked, and the path is that node
-  pub search_first : from < length table → length old ≡ length table → get_or old from false ≡ false → (looked : List ℕ) → looked ≡ replicate (length table) 0
+  pub search_first : from < length table → length old ≡ length table → get_or old from false ≡ false → (looked : List ℕ)
+      → looked ≡ replicate (length table) 0
       → IsSearch table old from goal (set old from true) looked (from ∷ [])
   search_first inside long clear looked is = record {
     long = length-set old from true ∙ long;
@@ -79,14 +80,16 @@ module _ (table : List (List ℕ)) (old : List Bool) (from : ℕ) (goal : Option
           other (is_goal ∙ ap (λ (k : ℕ). Some k) (sym same.1))
 
       -- the search goes on to a node without a mark
-      pub search_on : IsClosed table → (m : List Bool) (l p : List ℕ) → GoesOn (get_or table node []) node marks looked path m l p → IsSearch table old from goal m l p
+      pub search_on : IsClosed table → (m : List Bool) (l p : List ℕ)
+          → GoesOn (get_or table node []) node marks looked path m l p → IsSearch table old from goal m l p
       search_on closed m l p g =
           subst (λ (xs : List ℕ). IsSearch table old from goal m l xs) (sym g.longer)
           (subst (λ (xs : List ℕ). IsSearch table old from goal m xs (path ++ get_or (get_or table node []) g.place 0 ∷ [])) (sym g.noted)
           (subst (λ (xs : List Bool). IsSearch table old from goal xs (set looked node g.place) (path ++ get_or (get_or table node []) g.place 0 ∷ [])) (sym g.marked)
           (gone_on g.place g.is_fresh (get_or (get_or table node []) g.place 0) refl (Contains-get_or (get_or table node []) g.place 0 g.is_fresh.within))))
         where
-          gone_on : (place : ℕ) → IsFresh (get_or table node []) marks (get_or looked node 0) place → (next : ℕ) → next ≡ get_or (get_or table node []) place 0 → HasEdge table node next
+          gone_on : (place : ℕ) → IsFresh (get_or table node []) marks (get_or looked node 0) place → (next : ℕ)
+              → next ≡ get_or (get_or table node []) place 0 → HasEdge table node next
               → IsSearch table old from goal (set marks next true) (set looked node place) (path ++ next ∷ [])
           gone_on place is_fresh next is edge = record {
             long = length-set marks next true ∙ s.long;
@@ -134,7 +137,8 @@ module _ (table : List (List ℕ)) (old : List Bool) (from : ℕ) (goal : Option
                 ];
               }
 
-              looked_on : (n k : ℕ) → k < get_or (set looked node place) n 0 → k < length (get_or table n []) → IsMarked marks (get_or (get_or table n []) k 0)
+              looked_on : (n k : ℕ) → k < get_or (set looked node place) n 0 → k < length (get_or table n [])
+                  → IsMarked marks (get_or (get_or table n []) k 0)
               looked_on n k low inside = elim (same_or_not n node) [
                 | inr apart ↦ s.looked_at n k (let same = get_or-set_other looked node n place 0 apart in omega arith) inside
                 | inl e ↦ subst (λ (i : ℕ). IsMarked marks (get_or (get_or table i []) k 0)) (sym e) (elim (cases_lt k (get_or looked node 0)) [
@@ -150,7 +154,8 @@ module _ (table : List (List ℕ)) (old : List Bool) (from : ℕ) (goal : Option
               ]
 
       -- or back, where all to which the node leads is marked
-      pub search_back : (m : List Bool) (l p : List ℕ) → GoesBack (get_or table node []) node marks looked path m l p → IsSearch table old from goal m l p
+      pub search_back : (m : List Bool) (l p : List ℕ) → GoesBack (get_or table node []) node marks looked path m l p
+          → IsSearch table old from goal m l p
       search_back m l p g =
           subst (λ (xs : List ℕ). IsSearch table old from goal m l xs) (sym (g.shorter front node ends))
           (subst (λ (xs : List ℕ). IsSearch table old from goal m xs front) (sym g.same_looked)
@@ -186,7 +191,8 @@ module _ (table : List (List ℕ)) (old : List Bool) (from : ℕ) (goal : Option
           }
 
   -- where the path is empty, the marks have spread
-  pub search_over : (marks : List Bool) (looked : List ℕ) → IsSearch table old from goal marks looked [] → IsSpread table old from goal marks
+  pub search_over : (marks : List Bool) (looked : List ℕ) → IsSearch table old from goal marks looked []
+      → IsSpread table old from goal marks
   search_over marks looked s = record {
     here = s.here;
     closed = λ n to marked new edge. elim (s.left n to marked new edge) [ inl there ↦ no_member n there | inr done ↦ done ];
@@ -194,7 +200,8 @@ module _ (table : List (List ℕ)) (old : List Bool) (from : ℕ) (goal : Option
   }
 
   -- marks that have spread hold the end of each walk that no old mark bars
-  pub spread_along : (new : List Bool) → IsSpread table old from goal new → (n : ℕ) (path : List ℕ) → Walk (HasEdge table) from n path
+  pub spread_along : (new : List Bool) → IsSpread table old from goal new → (n : ℕ) (path : List ℕ)
+      → Walk (HasEdge table) from n path
       → ((m : ℕ) × Contains path m × IsMarked old m) ⊎ (IsMarked new n × (IsMarked old n → ⊥))
   spread_along new s n path stays = by_mark old from (λ was. inl (from, Contains-push [] from, was)) (λ clear. inr (s.here, clear))
   spread_along new s n path (goes_on {u = u} {v = v} {path = before} way edge) = elim (spread_along new s u before way) [
@@ -203,11 +210,13 @@ module _ (table : List (List ℕ)) (old : List Bool) (from : ℕ) (goal : Option
   ]
 
   -- so they hold what is reached past the old marks
-  pub spread_all : (new : List Bool) → IsSpread table old from goal new → (n : ℕ) → ReachesPast (HasEdge table) old from n → IsMarked new n
+  pub spread_all : (new : List Bool) → IsSpread table old from goal new → (n : ℕ)
+      → ReachesPast (HasEdge table) old from n → IsMarked new n
   spread_all new s n way = elim (spread_along new s n way.path way.walk) [ inl met ↦ absurd (way.avoids met.0 met.1 met.2) | inr here ↦ here.0 ]
 
   -- and where the goal was not met, each walk to it is barred
-  pub spread_barred : (new : List Bool) (to : ℕ) → goal ≡ Some to → IsSpread table old from goal new → IsBarred (HasEdge table) old from to
+  pub spread_barred : (new : List Bool) (to : ℕ) → goal ≡ Some to → IsSpread table old from goal new
+      → IsBarred (HasEdge table) old from to
   spread_barred new to is_goal s path walk = elim (spread_along new s to path walk) [ inl met ↦ met | inr (marked, clear) ↦ absurd (clear (s.missed to is_goal marked)) ]
 
 -- how far a search has to go: twice the nodes without a mark, and once the path
@@ -215,7 +224,8 @@ abbrev pub left_to_go : List Bool → List ℕ → ℕ
 left_to_go marks path = (length marks - marked_count marks) + (length marks - marked_count marks) + length path
 
 -- it falls where the search goes on
-pub on_falls : (row : List ℕ) (node : ℕ) (marks : List Bool) (looked path : List ℕ) (m : List Bool) (l p : List ℕ) → GoesOn row node marks looked path m l p
+pub on_falls : (row : List ℕ) (node : ℕ) (marks : List Bool) (looked path : List ℕ) (m : List Bool) (l p : List ℕ)
+    → GoesOn row node marks looked path m l p
     → ((k : ℕ) → k < length row → get_or row k 0 < length marks) → left_to_go m p < left_to_go marks path
 on_falls row node marks looked path m l p g inside =
     let next = get_or row g.place 0 in
@@ -226,7 +236,8 @@ on_falls row node marks looked path m l p g inside =
     omega arith
 
 -- and where it goes back
-pub back_falls : (row : List ℕ) (node : ℕ) (marks : List Bool) (looked path front : List ℕ) → path ≡ front ++ node ∷ [] → (m : List Bool) (l p : List ℕ)
+pub back_falls : (row : List ℕ) (node : ℕ) (marks : List Bool) (looked path front : List ℕ) → path ≡ front ++ node ∷ []
+    → (m : List Bool) (l p : List ℕ)
     → GoesBack row node marks looked path m l p → left_to_go m p < left_to_go marks path
 back_falls row node marks looked path front ends m l p g =
     let shorter = ap length (g.shorter front node ends) in
@@ -242,7 +253,8 @@ spread_found table old from new None spread = spread
 spread_found table old from new (Some path) met = absurd (let e = met.is_goal in cc)
 
 -- and one that has not met its goal shows that each walk to it is barred
-pub barred_found : (table : List (List ℕ)) (old marks : List Bool) (from to : ℕ) (new : List Bool) → old ≡ marks → (result : Result (Option (Vec ℕ Global)) AllocError)
+pub barred_found : (table : List (List ℕ)) (old marks : List Bool) (from to : ℕ) (new : List Bool) → old ≡ marks
+    → (result : Result (Option (Vec ℕ Global)) AllocError)
     → IfOk result (λ found. MatchOption found (IsSpread table old from (Some to) new) (λ path. IsMet table old from (Some to) path.items))
     → IfOk result (λ found. IfNone found (IsBarred (HasEdge table) marks from to))
 barred_found table old marks from to new same (Ok None) spread =

@@ -14,10 +14,12 @@ use Rattle.graph_walks.specs.WalkLaws.{walk_cons}
 
 module _ (Leads : ℕ → ℕ → Type 0) where
   -- a walk after a walk
-  pub walk_join : (a b c : ℕ) (front rest : List ℕ) → Walk Leads a b (front ++ b ∷ []) → Walk Leads b c (b ∷ rest) → Walk Leads a c (front ++ b ∷ rest)
+  pub walk_join : (a b c : ℕ) (front rest : List ℕ) → Walk Leads a b (front ++ b ∷ []) → Walk Leads b c (b ∷ rest)
+      → Walk Leads a c (front ++ b ∷ rest)
   walk_join a b c front rest first second = along b c (b ∷ rest) second front first
     where
-      along : (d e : ℕ) (path : List ℕ) → Walk Leads d e path → (before : List ℕ) → Walk Leads a d (before ++ d ∷ []) → Walk Leads a e (before ++ path)
+      along : (d e : ℕ) (path : List ℕ) → Walk Leads d e path → (before : List ℕ) → Walk Leads a d (before ++ d ∷ [])
+          → Walk Leads a e (before ++ path)
       along d e path stays before way = way
       along d e path (goes_on {u = u} {v = v} {path = part} rest edge) before way =
           subst (λ (xs : List ℕ). Walk Leads a v xs) (append_assoc before part (v ∷ [])) (goes_on (along d u part rest before way) edge)
@@ -34,14 +36,16 @@ module _ (Leads : ℕ → ℕ → Type 0) where
   walk_stops a b path (goes_on {u = u} {v = v} {path = before} way edge) = (before, refl)
 
   -- where each edge leads below a bound, each node of a walk from below lies below
-  pub walk_within : (bound : ℕ) → ((u v : ℕ) → Leads u v → v < bound) → (a b : ℕ) (path : List ℕ) → Walk Leads a b path → a < bound → (n : ℕ) → Contains path n → n < bound
+  pub walk_within : (bound : ℕ) → ((u v : ℕ) → Leads u v → v < bound) → (a b : ℕ) (path : List ℕ) → Walk Leads a b path
+      → a < bound → (n : ℕ) → Contains path n → n < bound
   walk_within bound within a b path stays low n there =
       elim (contains_cases a [] n there) [ inl e ↦ subst (λ (k : ℕ). k < bound) (sym e) low | inr none ↦ no_member n none ]
   walk_within bound within a b path (goes_on {u = u} {v = v} {path = before} way edge) low n there =
       elim (Contains-push_cases before v n there) [ inl earlier ↦ walk_within bound within a u before way low n earlier | inr e ↦ subst (λ (k : ℕ). k < bound) e (within u v edge) ]
 
 -- read backwards a walk goes against the edges
-pub walk_turned : (Leads Other : ℕ → ℕ → Type 0) → ((u v : ℕ) → Leads u v → Other v u) → (a b : ℕ) (path : List ℕ) → Walk Leads a b path → Walk Other b a (reverse path)
+pub walk_turned : (Leads Other : ℕ → ℕ → Type 0) → ((u v : ℕ) → Leads u v → Other v u) → (a b : ℕ) (path : List ℕ)
+    → Walk Leads a b path → Walk Other b a (reverse path)
 walk_turned Leads Other to a b path stays = stays
 walk_turned Leads Other to a b path (goes_on {u = u} {v = v} {path = before} way edge) =
     subst (λ (xs : List ℕ). Walk Other v a xs) (sym (reverse-append before (v ∷ []))) (walk_cons Other v u a (reverse before) (to u v edge) (walk_turned Leads Other to a u before way))

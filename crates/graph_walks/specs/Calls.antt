@@ -1,5 +1,5 @@
--- Calls among functions, and recursion.
--- A program's calls are a table: its row f has the functions that function f calls, in the order of the text. One may stand there more than once.
+-- Calls among functions, and recursion. A program's calls are a table: its row f has the functions that function f
+-- calls, in the order of the text. One may stand there more than once.
 --   Calls calls f g          f calls g
 --   Reaches calls f g        one call or more leads from f to g
 --   OnCycle calls f          calls lead from f back to f

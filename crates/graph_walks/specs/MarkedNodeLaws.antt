@@ -65,7 +65,8 @@ pub uncounted : (marks : List Bool) → marked_count (false ∷ marks) ≡ marke
 uncounted marks = let sum = sum_by-cons (λ (mark : Bool). cond mark 1 0) false marks in omega arith
 
 -- where marks are kept, no fewer are marked
-pub marked_most : (old new : List Bool) → length new ≡ length old → KeepsMarks old new → marked_count old ≤ marked_count new
+pub marked_most : (old new : List Bool) → length new ≡ length old → KeepsMarks old new
+    → marked_count old ≤ marked_count new
 marked_most [] [] long kept = omega arith
 marked_most [] (y ∷ new) long kept = absurd (omega arith)
 marked_most (x ∷ old) [] long kept = absurd (omega arith)
@@ -75,7 +76,8 @@ marked_most (false ∷ old) (true ∷ new) long kept = let most = marked_most ol
 marked_most (false ∷ old) (false ∷ new) long kept = let most = marked_most old new (omega arith) (λ n is. kept (suc n) is) in omega (arith, counted old, counted new, uncounted old, uncounted new)
 
 -- a new mark counts one more
-pub marked_set : (marks : List Bool) (m : ℕ) → m < length marks → get_or marks m false ≡ false → marked_count (set marks m true) ≡ suc (marked_count marks)
+pub marked_set : (marks : List Bool) (m : ℕ) → m < length marks → get_or marks m false ≡ false
+    → marked_count (set marks m true) ≡ suc (marked_count marks)
 marked_set [] m low clear = absurd (omega arith)
 marked_set (true ∷ marks) zero low clear = absurd (let e : true ≡ false = clear in cc)
 marked_set (false ∷ marks) zero low clear = omega (arith, counted marks, uncounted marks)
@@ -83,7 +85,8 @@ marked_set (true ∷ marks) (suc m) low clear = let more = marked_set marks m (o
 marked_set (false ∷ marks) (suc m) low clear = let more = marked_set marks m (omega arith) clear in omega (arith, counted (set marks m true), counted marks, uncounted (set marks m true), uncounted marks)
 
 -- so more are marked where there is a new one
-pub marked_more : (old new : List Bool) (m : ℕ) → length new ≡ length old → KeepsMarks old new → get_or old m false ≡ false → IsMarked new m → marked_count old < marked_count new
+pub marked_more : (old new : List Bool) (m : ℕ) → length new ≡ length old → KeepsMarks old new
+    → get_or old m false ≡ false → IsMarked new m → marked_count old < marked_count new
 marked_more old new m long kept clear is =
     let low = marked_low new m is in
     let more = marked_set old m (omega arith) clear in
@@ -94,7 +97,8 @@ marked_more old new m long kept clear is =
     omega arith
 
 -- where one node alone is marked, it lies on each walk that is barred
-pub barred_by_one : (Leads : ℕ → ℕ → Type 0) (marks : List Bool) (a b h : ℕ) → ((n : ℕ) → IsMarked marks n → n ≡ h) → IsBarred Leads marks a b
+pub barred_by_one : (Leads : ℕ → ℕ → Type 0) (marks : List Bool) (a b h : ℕ) → ((n : ℕ) → IsMarked marks n → n ≡ h)
+    → IsBarred Leads marks a b
     → (path : List ℕ) → Walk Leads a b path → Contains path h
 barred_by_one Leads marks a b h only bars path walk =
     let met = bars path walk in subst (λ (n : ℕ). Contains path n) (only met.0 met.2) met.1

@@ -27,7 +27,8 @@ module _ (Leads : ℕ → ℕ → Type 0) where
   walk_ends a b path (goes_on {u = u} {v = v} {path = before} way edge) = Contains-push before v
 
   -- a walk is cut in two at one of its nodes
-  pub split : (a b h : ℕ) (front rest path : List ℕ) → Walk Leads a b path → path ≡ front ++ h ∷ rest → Walk Leads a h (front ++ h ∷ []) × Walk Leads h b (h ∷ rest)
+  pub split : (a b h : ℕ) (front rest path : List ℕ) → Walk Leads a b path → path ≡ front ++ h ∷ rest
+      → Walk Leads a h (front ++ h ∷ []) × Walk Leads h b (h ∷ rest)
   split a b h [] rest path stays e =
       let same : h ≡ a = cc in
       let none : rest ≡ [] = cc in
@@ -55,6 +56,7 @@ module _ (Leads : ℕ → ℕ → Type 0) where
           (cut.0, subst (λ (xs : List ℕ). Walk Leads h v (h ∷ xs)) ends (goes_on cut.1 edge))
 
 -- a walk along edges that another relation has too is one of that relation
-pub walk_same : (Leads Other : ℕ → ℕ → Type 0) → ((u v : ℕ) → Leads u v → Other u v) → (a b : ℕ) (path : List ℕ) → Walk Leads a b path → Walk Other a b path
+pub walk_same : (Leads Other : ℕ → ℕ → Type 0) → ((u v : ℕ) → Leads u v → Other u v) → (a b : ℕ) (path : List ℕ)
+    → Walk Leads a b path → Walk Other a b path
 walk_same Leads Other to a b path stays = stays
 walk_same Leads Other to a b path (goes_on {u = u} {v = v} {path = before} way edge) = goes_on (walk_same Leads Other to a u before way) (to u v edge)

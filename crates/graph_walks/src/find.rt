@@ -23,7 +23,8 @@ pub fn find_walk(
     requires closed { IsClosed (rows_of table.now) }
     requires long { length marks.now ≡ length table.now }
     requires inside { from < length table.now }
-    ensures walk { IfOk result (λ found. IfSome found (λ path. IsPathPast (HasEdge (rows_of table.now)) marks.now from to path.items)) }
+    ensures walk { IfOk result
+        (λ found. IfSome found (λ path. IsPathPast (HasEdge (rows_of table.now)) marks.now from to path.items)) }
     ensures none { IfOk result (λ found. IfNone found (IsBarred (HasEdge (rows_of table.now)) marks.now from to)) }
 {
     if marks[from as usize] {

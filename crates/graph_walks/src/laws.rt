@@ -14,7 +14,8 @@ pub fn ranked_calls_have_no_cycle()
 /// that it leaves.
 pub fn walks_go_along_edges()
     ensures stays { (table : List (List ℕ)) (a : ℕ) → Walk (HasEdge table) a a (a ∷ []) }
-    ensures two { (table : List (List ℕ)) (a b d : ℕ) → HasEdge table a b → HasEdge table b d → Walk (HasEdge table) a d (a ∷ b ∷ d ∷ []) }
+    ensures two { (table : List (List ℕ)) (a b d : ℕ) → HasEdge table a b → HasEdge table b d
+        → Walk (HasEdge table) a d (a ∷ b ∷ d ∷ []) }
     ensures edge { HasEdge ((2 ∷ 1 ∷ []) ∷ [] ∷ []) 0 1 }
     ensures none { HasEdge ((1 ∷ []) ∷ [] ∷ []) 1 0 → ⊥ }
 {}

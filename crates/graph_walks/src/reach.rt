@@ -23,8 +23,10 @@ pub fn mark_reached(
     requires long { length marks.old ≡ length table.now }
     requires inside { from < length table.now }
     ensures kept { KeepsMarks marks.old marks.new }
-    ensures reached { (n : ℕ) → IsMarked marks.new n → IsMarked marks.old n ⊎ ReachesPast (HasEdge (rows_of table.now)) marks.old from n }
-    ensures all { OnOk result ((n : ℕ) → ReachesPast (HasEdge (rows_of table.now)) marks.old from n → IsMarked marks.new n) }
+    ensures reached { (n : ℕ) → IsMarked marks.new n
+        → IsMarked marks.old n ⊎ ReachesPast (HasEdge (rows_of table.now)) marks.old from n }
+    ensures all { OnOk result
+        ((n : ℕ) → ReachesPast (HasEdge (rows_of table.now)) marks.old from n → IsMarked marks.new n) }
 {
     if !marks[from as usize] {
         search(alloc, table, marks, from, None)?;

@@ -1,6 +1,7 @@
 //! A depth-first search that marks what it sees.
 
-ghost use Rattle.std.specs.Prelude.{◌≡◌, ◌<◌, ℕ, true, false, length, [], slice_index_or, OnOk, OnErr, IfOk, MatchOption, ◌⊎◌};
+ghost use Rattle.std.specs.Prelude.{◌≡◌, ◌<◌, ℕ, true, false, length, [], slice_index_or, OnOk, OnErr, IfOk};
+ghost use Rattle.std.specs.Prelude.{MatchOption, ◌⊎◌};
 ghost use Rattle.graph_walks.specs.Tables.{HasEdge, IsClosed, rows_of};
 ghost use Rattle.graph_walks.specs.MarkedNodes.{IsMarked, KeepsMarks, ReachesPast};
 ghost use Rattle.graph_walks.specs.Searching.{IsSpread, IsMet, GoesOn, GoesBack};
@@ -24,7 +25,8 @@ pub fn search(
     requires inside { from < length table.now }
     requires clear { slice_index_or marks.old from false ≡ false }
     ensures kept { KeepsMarks marks.old marks.new }
-    ensures reached { (n : ℕ) → IsMarked marks.new n → IsMarked marks.old n ⊎ ReachesPast (HasEdge (rows_of table.now)) marks.old from n }
+    ensures reached { (n : ℕ) → IsMarked marks.new n
+        → IsMarked marks.old n ⊎ ReachesPast (HasEdge (rows_of table.now)) marks.old from n }
     ensures found { IfOk result (λ found. MatchOption found (IsSpread (rows_of table.now) marks.old from goal marks.new)
         (λ path. IsMet (rows_of table.now) marks.old from goal path.items)) }
 {

@@ -22,21 +22,25 @@ use Rattle.strided_operators.specs.Limits.{CanPlace}
 abbrev pub IsFar : Progression → Type 0
 IsFar p = IsPiece (neg_ℤ (pos (2 ^ 64))) (pos (2 ^ 64)) p
 
-wider : (least most : ℤ) (o : Option Progression) → neg_ℤ (pos (2 ^ 64)) ≤ℤ least → most ≤ℤ pos (2 ^ 64) → IfPiece least most o → IfPiece (neg_ℤ (pos (2 ^ 64))) (pos (2 ^ 64)) o
+wider : (least most : ℤ) (o : Option Progression) → neg_ℤ (pos (2 ^ 64)) ≤ℤ least → most ≤ℤ pos (2 ^ 64)
+    → IfPiece least most o → IfPiece (neg_ℤ (pos (2 ^ 64))) (pos (2 ^ 64)) o
 wider least most None low high i = tt
 wider least most (Some p) low high i = record { progression = i.progression; low = omega (arith, ints, low, i.low); high = omega (arith, ints, high, i.high) }
 
-pub pieces_far : (least most : ℤ) (pieces : Pieces) → neg_ℤ (pos (2 ^ 64)) ≤ℤ least → most ≤ℤ pos (2 ^ 64) → ArePieces least most pieces → ArePieces (neg_ℤ (pos (2 ^ 64))) (pos (2 ^ 64)) pieces
+pub pieces_far : (least most : ℤ) (pieces : Pieces) → neg_ℤ (pos (2 ^ 64)) ≤ℤ least → most ≤ℤ pos (2 ^ 64)
+    → ArePieces least most pieces → ArePieces (neg_ℤ (pos (2 ^ 64))) (pos (2 ^ 64)) pieces
 pieces_far least most pieces low high are = record {
   first = wider least most pieces.first low high are.first;
   second = wider least most pieces.second low high are.second;
   third = wider least most pieces.third low high are.third;
 }
 
-pub unsigned_far : (w : ℕ) (pieces : Pieces) → w ≤ 64 → ArePieces (pos 0) (full w -ℤ pos 1) pieces → ArePieces (neg_ℤ (pos (2 ^ 64))) (pos (2 ^ 64)) pieces
+pub unsigned_far : (w : ℕ) (pieces : Pieces) → w ≤ 64 → ArePieces (pos 0) (full w -ℤ pos 1) pieces
+    → ArePieces (neg_ℤ (pos (2 ^ 64))) (pos (2 ^ 64)) pieces
 unsigned_far w pieces most are = pieces_far (pos 0) (full w -ℤ pos 1) pieces (omega (arith, ints)) (omega (arith, ints, full_most w most)) are
 
-pub signed_far : (w : ℕ) (pieces : Pieces) → 1 ≤ w → w ≤ 64 → ArePieces (neg_ℤ (half w)) (half w -ℤ pos 1) pieces → ArePieces (neg_ℤ (pos (2 ^ 64))) (pos (2 ^ 64)) pieces
+pub signed_far : (w : ℕ) (pieces : Pieces) → 1 ≤ w → w ≤ 64 → ArePieces (neg_ℤ (half w)) (half w -ℤ pos 1) pieces
+    → ArePieces (neg_ℤ (pos (2 ^ 64))) (pos (2 ^ 64)) pieces
 signed_far w pieces least most are = pieces_far (neg_ℤ (half w)) (half w -ℤ pos 1) pieces (omega (arith, ints, full_most w most, halves w least)) (omega (arith, ints, full_most w most, halves w least)) are
 
 -- an end of pieces that lie from low to high does
@@ -48,13 +52,15 @@ end_within low high so_far (Some r) p q i = (
   (omega (arith, ints, clamps, p, i.low), omega (arith, ints, clamps, q, i.high, i.progression.order)),
 )
 
-greatest_within : (low high so_far : ℤ) (pieces : Pieces) → low ≤ℤ so_far → so_far ≤ℤ high → ArePieces low high pieces → (low ≤ℤ greatest_of so_far pieces) × (greatest_of so_far pieces ≤ℤ high)
+greatest_within : (low high so_far : ℤ) (pieces : Pieces) → low ≤ℤ so_far → so_far ≤ℤ high → ArePieces low high pieces
+    → (low ≤ℤ greatest_of so_far pieces) × (greatest_of so_far pieces ≤ℤ high)
 greatest_within low high so_far pieces p q are =
     let a = (end_within low high so_far pieces.first p q are.first).0 in
     let b = (end_within low high (greater_end so_far pieces.first) pieces.second a.0 a.1 are.second).0 in
     (end_within low high (greater_end (greater_end so_far pieces.first) pieces.second) pieces.third b.0 b.1 are.third).0
 
-least_within : (low high so_far : ℤ) (pieces : Pieces) → low ≤ℤ so_far → so_far ≤ℤ high → ArePieces low high pieces → (low ≤ℤ least_of so_far pieces) × (least_of so_far pieces ≤ℤ high)
+least_within : (low high so_far : ℤ) (pieces : Pieces) → low ≤ℤ so_far → so_far ≤ℤ high → ArePieces low high pieces
+    → (low ≤ℤ least_of so_far pieces) × (least_of so_far pieces ≤ℤ high)
 least_within low high so_far pieces p q are =
     let a = (end_within low high so_far pieces.first p q are.first).1 in
     let b = (end_within low high (lesser_end so_far pieces.first) pieces.second a.0 a.1 are.second).1 in
@@ -87,7 +93,8 @@ greatest_rises pieces =
     let c = end_rises (greater_end (greater_end (pos 0) pieces.first) pieces.second) pieces.third in
     omega (arith, ints, a, b, c)
 
-pub lesser_places : (a b : Stride) → unsigned_greatest a ≤ℤ pos (2 ^ 64) → CanPlace (span (pos 0) (int_min (unsigned_greatest a) (unsigned_greatest b)))
+pub lesser_places : (a b : Stride) → unsigned_greatest a ≤ℤ pos (2 ^ 64)
+    → CanPlace (span (pos 0) (int_min (unsigned_greatest a) (unsigned_greatest b)))
 lesser_places a b small =
     let first = greatest_rises (unsigned_of a) in
     let second = greatest_rises (unsigned_of b) in

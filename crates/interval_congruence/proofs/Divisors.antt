@@ -46,13 +46,15 @@ inner most p (Some q) i is inside other = record {
   high = let h = inside q.hi (has_hi q is) in omega (arith, ints, h.most, i.high);
 }
 
-part_rises : (most : ℤ) (o : Option Progression) → IfPiece (pos 0) most o → IfPiece (pos 1) most (part_of (without_end (pos 0)) o)
+part_rises : (most : ℤ) (o : Option Progression) → IfPiece (pos 0) most o
+    → IfPiece (pos 1) most (part_of (without_end (pos 0)) o)
 part_rises most None i = tt
 part_rises most (Some p) i =
     let part = end_part (pos 0) in
     inner most p (without_end (pos 0) p) i (part.is p i.progression) (λ n h. part.inside p n i.progression h) (λ n h. end_drops p n i.progression i.low h)
 
-parts_rise : (most : ℤ) (pieces : Pieces) → ArePieces (pos 0) most pieces → ArePieces (pos 1) most (parts_of (without_end (pos 0)) pieces)
+parts_rise : (most : ℤ) (pieces : Pieces) → ArePieces (pos 0) most pieces
+    → ArePieces (pos 1) most (parts_of (without_end (pos 0)) pieces)
 parts_rise most pieces are = record {
   first = part_rises most pieces.first are.first;
   second = part_rises most pieces.second are.second;
@@ -66,11 +68,13 @@ record Inner (most : ℤ) (pieces : Pieces) : Type 0 where
   low : pos 1 ≤ℤ number
   high : number ≤ℤ most
 
-first_of : (most : ℤ) (pieces : Pieces) (p : Progression) → IsPiece (pos 1) most p → SomeHas pieces p.lo → Inner most pieces
+first_of : (most : ℤ) (pieces : Pieces) (p : Progression) → IsPiece (pos 1) most p → SomeHas pieces p.lo
+    → Inner most pieces
 first_of most pieces p i has = record { number = p.lo; has = has; low = i.low; high = omega (arith, ints, i.progression.order, i.high) }
 
 -- a value that was joined over such pieces has one
-number_of : (w : ℕ) (most : ℤ) (a b c : Option Progression) (d : Stride) → IfPiece (pos 1) most a → IfPiece (pos 1) most b → IfPiece (pos 1) most c
+number_of : (w : ℕ) (most : ℤ) (a b c : Option Progression) (d : Stride) → IfPiece (pos 1) most a
+    → IfPiece (pos 1) most b → IfPiece (pos 1) most c
     → kept_value w (each w (λ p. p) (record { first = a; second = b; third = c })) ≡ Some d → Inner most (record { first = a; second = b; third = c })
 unfolding each
 number_of w most (Some p) b c d i j k e = first_of most _ p i (inl (has_lo p i.progression))

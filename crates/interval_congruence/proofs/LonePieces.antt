@@ -23,7 +23,8 @@ abbrev pub second_alone : Progression → Pieces
 second_alone p = record { first = None; second = Some p; third = None }
 
 -- from 0 to below 2 to the size
-pub unsigned_turn : (w : ℕ) (p : Progression) → p.lo ≤ℤ p.hi → pos 0 ≤ℤ p.lo → p.hi <ℤ full w → unsigned_pieces w p ≡ second_alone p
+pub unsigned_turn : (w : ℕ) (p : Progression) → p.lo ≤ℤ p.hi → pos 0 ≤ℤ p.lo → p.hi <ℤ full w
+    → unsigned_pieces w p ≡ second_alone p
 unfolding from_least up_to
 unsigned_turn w p order low high =
     let a : int_le p.hi (neg_ℤ (pos 1)) ≡ false = sym (omega (arith, ints, order, low)) in
@@ -47,7 +48,8 @@ signed_turn w p order high =
 abbrev pub normed_value : ℕ → Progression → Stride
 normed_value w p = record { size = w; numbers = norm w p }
 
-pub each_alone : (w : ℕ) (rule : Progression → Progression) (p : Progression) → settled w (each w rule (second_alone p)) ≡ normed_value w (rule p)
+pub each_alone : (w : ℕ) (rule : Progression → Progression) (p : Progression)
+    → settled w (each w rule (second_alone p)) ≡ normed_value w (rule p)
 unfolding each
 each_alone w rule p = refl
 

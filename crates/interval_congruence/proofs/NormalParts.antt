@@ -18,7 +18,8 @@ narrow (pos n) low high = record { sfits = omega (arith, ints, high) }
 narrow (negsuc n) low high = record { sfits = omega (arith, ints, low) }
 
 -- the low end fits its word
-pub low_is : (w : ℕ) (p : Progression) (n : ℤ) → 1 ≤ w → w ≤ 64 → IsPlaced w p → n ≡ p.lo → cast_signed w64 (cast_unsigned w64 (cast_signed w128 (cast_unsigned w128 n))) ≡ p.lo
+pub low_is : (w : ℕ) (p : Progression) (n : ℤ) → 1 ≤ w → w ≤ 64 → IsPlaced w p → n ≡ p.lo
+    → cast_signed w64 (cast_unsigned w64 (cast_signed w128 (cast_unsigned w128 n))) ≡ p.lo
 low_is w p n least most placed same =
     let low : neg_ℤ (pos (2 ^ 63)) ≤ℤ p.lo = omega (arith, ints, placed.low, full_most w most, halves w least) in
     let high : p.lo <ℤ pos (2 ^ 63) = omega (arith, ints, placed.high, full_most w most, halves w least) in
@@ -44,7 +45,8 @@ abbrev pub value_by : ℕ → ℤ → ℕ → ℕ → Stride
 value_by w lo width step = record { size = w; numbers = record { lo = lo; hi = lo +ℤ pos width; step = pos step } }
 
 -- they make the progression
-pub kept_is : (w : ℕ) (p : Progression) (lo : ℤ) (width step : ℕ) → lo ≡ p.lo → pos width ≡ p.hi -ℤ p.lo → pos step ≡ p.step → value_by w lo width step ≡ value_of w p
+pub kept_is : (w : ℕ) (p : Progression) (lo : ℤ) (width step : ℕ) → lo ≡ p.lo → pos width ≡ p.hi -ℤ p.lo
+    → pos step ≡ p.step → value_by w lo width step ≡ value_of w p
 kept_is w p lo width step low wide stepped =
     let high : lo +ℤ pos width ≡ p.hi = omega (arith, ints, low, wide) in
     rw (high, stepped, low) refl

@@ -20,13 +20,15 @@ words_taken (a ∷ b ∷ []) small = refl
 words_taken (a ∷ b ∷ c ∷ []) small = refl
 words_taken (a ∷ b ∷ c ∷ d ∷ args) small = absurd (omega (arith, small))
 
-pub words_fit : (sizes : List ℕ) (args : List Stride) → HaveSizes stride_sets sizes args → EachFits sizes (map word_of args)
+pub words_fit : (sizes : List ℕ) (args : List Stride) → HaveSizes stride_sets sizes args
+    → EachFits sizes (map word_of args)
 words_fit [] [] sized = tt
 words_fit [] (a ∷ args) sized = absurd sized
 words_fit (s ∷ sizes) [] sized = absurd sized
 words_fit (s ∷ sizes) (a ∷ args) sized = (rw (← sized.0) (word_below a.size a.numbers.lo), words_fit sizes args sized.1)
 
-pub sized_at : (sizes : List ℕ) (args : List Stride) (i : ℕ) → HaveSizes stride_sets sizes args → IsSized (slice_get sizes i) (operand args i)
+pub sized_at : (sizes : List ℕ) (args : List Stride) (i : ℕ) → HaveSizes stride_sets sizes args
+    → IsSized (slice_get sizes i) (operand args i)
 sized_at [] [] i sized = tt
 sized_at [] (a ∷ args) i sized = absurd sized
 sized_at (s ∷ sizes) [] i sized = absurd sized

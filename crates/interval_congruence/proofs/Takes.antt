@@ -83,13 +83,15 @@ signed_half w p least most i =
     let two = halves w least in
     half_of (neg_ℤ (half w)) (half w -ℤ pos 1) p (omega (arith, ints, m, two)) (omega (arith, ints, m, two)) (omega (arith, ints, m, two)) i
 
-pub unsigned_halves : (a b : Stride) → IsStride a → IsStride b → a.size + b.size ≤ 64 → TakesBoth AreHalves (unsigned_of a) (unsigned_of b)
+pub unsigned_halves : (a b : Stride) → IsStride a → IsStride b → a.size + b.size ≤ 64
+    → TakesBoth AreHalves (unsigned_of a) (unsigned_of b)
 unsigned_halves a b s t most = unsigned_takes AreHalves a b s t (λ p q i j. (
   unsigned_half a.size p (omega (arith, most, t.size.least)) i,
   unsigned_half b.size q (omega (arith, most, s.size.least)) j,
 ))
 
-pub signed_halves : (a b : Stride) → IsStride a → IsStride b → a.size + b.size ≤ 64 → TakesBoth AreHalves (signed_of a) (signed_of b)
+pub signed_halves : (a b : Stride) → IsStride a → IsStride b → a.size + b.size ≤ 64
+    → TakesBoth AreHalves (signed_of a) (signed_of b)
 signed_halves a b s t most = signed_takes AreHalves a b s t (λ p q i j. (
   signed_half a.size p s.size.least (omega (arith, most, t.size.least)) i,
   signed_half b.size q t.size.least (omega (arith, most, s.size.least)) j,

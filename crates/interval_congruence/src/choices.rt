@@ -2,7 +2,8 @@
 
 ghost use Rattle.std.specs.Prelude.{◌≡◌};
 ghost use Rattle.strided_rules.specs.Rules.{lesser as lesser_of, greater as greater_of};
-ghost use Rattle.strided_rules.specs.Operators.{choice as choice_of, unsigned_pair as unsigned_pair_of, signed_pair as signed_pair_of};
+ghost use Rattle.strided_rules.specs.Operators.{choice as choice_of, unsigned_pair as unsigned_pair_of};
+ghost use Rattle.strided_rules.specs.Operators.{signed_pair as signed_pair_of};
 
 use crate::value::Strided;
 use strided_operators::{Greater, Lesser};

@@ -3,7 +3,8 @@
 ghost use Rattle.std.specs.Prelude.{◌≡◌, ◌^◌, pos, neg_ℤ};
 ghost use Rattle.progressions.specs.Parts.{ArePieces};
 ghost use Rattle.strided_rules.specs.Members.{unsigned_of, signed_of};
-ghost use Rattle.strided_rules.specs.Operators.{truth as truth_of, less as less_of, less_or_equal as less_or_equal_of, may_equal as may_equal_of, may_differ as may_differ_of};
+ghost use Rattle.strided_rules.specs.Operators.{truth as truth_of, less as less_of, less_or_equal as less_or_equal_of};
+ghost use Rattle.strided_rules.specs.Operators.{may_equal as may_equal_of, may_differ as may_differ_of};
 
 use crate::value::Strided;
 use progressions::Pieces;

@@ -1,7 +1,8 @@
 //! Conjunctions of the bits of values.
 
 ghost use Rattle.std.specs.Prelude.{◌≡◌, ◌≤◌, IfSome};
-ghost use Rattle.strided_rules.specs.Operators.{mask_of, masked as masked_of, conjunction as conjunction_of, conjunction_by as conjunction_by_of};
+ghost use Rattle.strided_rules.specs.Operators.{mask_of, masked as masked_of, conjunction as conjunction_of};
+ghost use Rattle.strided_rules.specs.Operators.{conjunction_by as conjunction_by_of};
 
 use crate::images::normal;
 use crate::value::Strided;

@@ -4,7 +4,8 @@ ghost use Rattle.std.specs.Prelude.{◌≡◌, ◌<◌, IsSome, ◌≤◌, IfSom
 ghost use Rattle.alf_ops.specs.Table.{result_size, operand_sizes};
 ghost use Rattle.alf_ops.specs.Words.{divides as divides_of, EachFits};
 ghost use Rattle.strided_rules.specs.Members.{word_of};
-ghost use Rattle.strided_rules.specs.Domains.{operand as operand_of, all_one as all_one_of, divisor as divisor_of, divided as divided_of, known as known_of, stride_sets};
+ghost use Rattle.strided_rules.specs.Domains.{operand as operand_of, all_one as all_one_of, divisor as divisor_of};
+ghost use Rattle.strided_rules.specs.Domains.{divided as divided_of, known as known_of, stride_sets};
 ghost use Rattle.interval_congruence.specs.Operands.{IsSized};
 ghost use Rattle.interval_congruence.specs.Divisors.{IsDivisor};
 

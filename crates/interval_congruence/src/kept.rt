@@ -4,7 +4,8 @@ ghost use Rattle.std.specs.Prelude.{◌≡◌, ◌^◌, pos, neg_ℤ};
 ghost use Rattle.domain_core.specs.WordSets.{IsWordSize};
 ghost use Rattle.progressions.specs.Parts.{ArePieces, between as between_of};
 ghost use Rattle.strided_rules.specs.Joins.{IfPlaced, kept_value as kept_value_of};
-ghost use Rattle.strided_rules.specs.Members.{rest_of, without as without_of, unsigned_between as unsigned_between_of, signed_between as signed_between_of};
+ghost use Rattle.strided_rules.specs.Members.{rest_of, without as without_of, unsigned_between as unsigned_between_of};
+ghost use Rattle.strided_rules.specs.Members.{signed_between as signed_between_of};
 
 use crate::value::Strided;
 use progressions::{Pieces, Progression};

@@ -15,7 +15,8 @@ impl Strided {
     /// What the rule gives at the pieces of both, read unsigned.
     pub(crate) fn unsigned_pair<R: PairRule>(self, size: u32, rule: &R, other: Strided) -> Strided
         requires size { IsWordSize size }
-        requires takes { IsStride self → IsStride other → TakesEach (λ p. TakesEach (R.takes_both rule.now p) (unsigned_of other)) (unsigned_of self) }
+        requires takes { IsStride self → IsStride other
+            → TakesEach (λ p. TakesEach (R.takes_both rule.now p) (unsigned_of other)) (unsigned_of self) }
         ensures { result ≡ unsigned_pair_of size (R.gives_both rule.now) self other }
     {
         let (firsts, seconds) = (self.unsigned(), other.unsigned());
@@ -25,7 +26,8 @@ impl Strided {
     /// The same, read signed.
     pub(crate) fn signed_pair<R: PairRule>(self, size: u32, rule: &R, other: Strided) -> Strided
         requires size { IsWordSize size }
-        requires takes { IsStride self → IsStride other → TakesEach (λ p. TakesEach (R.takes_both rule.now p) (signed_of other)) (signed_of self) }
+        requires takes { IsStride self → IsStride other
+            → TakesEach (λ p. TakesEach (R.takes_both rule.now p) (signed_of other)) (signed_of self) }
         ensures { result ≡ signed_pair_of size (R.gives_both rule.now) self other }
     {
         let (firsts, seconds) = (self.signed(), other.signed());

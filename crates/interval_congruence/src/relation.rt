@@ -2,7 +2,11 @@
 
 ghost use Rattle.std.specs.Prelude.{◌≡◌, ◌≤◌, ◌^◌, pos, neg_ℤ, ◌-ℤ◌, ◌≤ℤ◌};
 ghost use Rattle.progressions.specs.Progressions.{full, half};
-ghost use Rattle.strided_rules.specs.Members.{unsigned_greatest as unsigned_greatest_of, unsigned_least as unsigned_least_of, signed_greatest as signed_greatest_of, signed_least as signed_least_of, unsigned_between as unsigned_between_of, signed_between as signed_between_of, assumed as assumed_of};
+ghost use Rattle.strided_rules.specs.Members.{unsigned_greatest as unsigned_greatest_of};
+ghost use Rattle.strided_rules.specs.Members.{unsigned_least as unsigned_least_of};
+ghost use Rattle.strided_rules.specs.Members.{signed_greatest as signed_greatest_of, signed_least as signed_least_of};
+ghost use Rattle.strided_rules.specs.Members.{unsigned_between as unsigned_between_of};
+ghost use Rattle.strided_rules.specs.Members.{signed_between as signed_between_of, assumed as assumed_of};
 ghost use Rattle.domain_core.specs.declared.relation.Rel.TheVariants.{Eq, Neq};
 
 use crate::value::Strided;

@@ -1,7 +1,8 @@
 //! Values shifted.
 
 ghost use Rattle.std.specs.Prelude.{◌≡◌};
-ghost use Rattle.strided_rules.specs.Operators.{by_word, l_shift_by as l_shift_by_of, r_shift_by as r_shift_by_of, r_shift_a_by as r_shift_a_by_of};
+ghost use Rattle.strided_rules.specs.Operators.{by_word, l_shift_by as l_shift_by_of, r_shift_by as r_shift_by_of};
+ghost use Rattle.strided_rules.specs.Operators.{r_shift_a_by as r_shift_a_by_of};
 
 use crate::value::Strided;
 use strided_operators::{Shifts, shifted_left};

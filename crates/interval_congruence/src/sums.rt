@@ -5,7 +5,8 @@ ghost use Rattle.domain_core.specs.WordSets.{IsWordSize};
 ghost use Rattle.strided_operators.specs.Limits.{CanPlace};
 ghost use Rattle.strided_rules.specs.Joins.{added as added_of, IfPlaced};
 ghost use Rattle.strided_rules.specs.Members.{has as has_of};
-ghost use Rattle.strided_rules.specs.Operators.{neg as neg_of, complement as complement_of, add as add_of, sub as sub_of, z_ext as z_ext_of, s_ext as s_ext_of, trunc as trunc_of};
+ghost use Rattle.strided_rules.specs.Operators.{neg as neg_of, complement as complement_of, add as add_of};
+ghost use Rattle.strided_rules.specs.Operators.{sub as sub_of, z_ext as z_ext_of, s_ext as s_ext_of, trunc as trunc_of};
 
 use crate::images::{normal, settled};
 use crate::value::Strided;

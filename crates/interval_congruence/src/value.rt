@@ -5,7 +5,8 @@ ghost use Rattle.domain_core.specs.WordSets.{IsWordSize};
 ghost use Rattle.progressions.specs.Progressions.{IsProgression, IsPlaced, full, half};
 ghost use Rattle.progressions.specs.Parts.{ArePieces};
 ghost use Rattle.progressions.specs.Limits.{IsSmall};
-ghost use Rattle.strided_rules.specs.Strides.{Stride, IsStride, norm as norm_of, one_word as one_word_of, every_word as every_word_of, joined as joined_of};
+ghost use Rattle.strided_rules.specs.Strides.{Stride, IsStride, norm as norm_of, one_word as one_word_of};
+ghost use Rattle.strided_rules.specs.Strides.{every_word as every_word_of, joined as joined_of};
 ghost use Rattle.strided_rules.specs.Members.{unsigned_of, signed_of, is_one as is_one_of, word_of};
 
 use crate::turns::{signed_pieces, unsigned_pieces};

@@ -10,7 +10,8 @@ use Rattle.ipet_rows.specs.declared.verdict.Verdict.TheVariants.{Holds, Negative
 -- each point's worth is below v + 1
 pub record BoundsAll (p : Program) (v bound : ℕ) : Type 0 where
   pub points : (x : ℕ → ℤ) (w : ℤ) → pos 1 ≤ℤ w → MeetsAll p x w → worth p x <ℤ (pos (suc v) *ℤ w)
-  pub fractions : (point : List (ℤ × ℤ)) → IsPoint p point → IsFeasible p point → worth p (part_of point) <ℤ (pos (suc v) *ℤ whole_of point)
+  pub fractions : (point : List (ℤ × ℤ)) → IsPoint p point → IsFeasible p point
+      → worth p (part_of point) <ℤ (pos (suc v) *ℤ whole_of point)
   pub least : v ≤ bound
 
 -- a fact where the verdict is `Holds`

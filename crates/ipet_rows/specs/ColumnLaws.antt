@@ -17,7 +17,8 @@ use Rattle.ipet_rows.specs.Columns.{Column, edge_column, fault_column, has_alarm
 use Rattle.ipet_rows.specs.Uses.{edges_used, steps_of, EndsAt, IsEnded}
 use Rattle.ipet_rows.specs.UseLaws.{AreApart}
 
-apart_append : (xs ys : List Column) → AreApart xs → AreApart ys → ((c : Column) → Contains xs c → Contains ys c → ⊥) → AreApart (xs ++ ys)
+apart_append : (xs ys : List Column) → AreApart xs → AreApart ys → ((c : Column) → Contains xs c → Contains ys c → ⊥)
+    → AreApart (xs ++ ys)
 apart_append [] ys a b none = b
 apart_append (x ∷ xs) ys a b none = (
   λ there. elim (Contains-append_cases xs ys x there) [ inl l ↦ a.0 l | inr r ↦ none x (first_member x xs) r ],
@@ -60,7 +61,8 @@ filtered_in p b (suc n) m above below passes = elim (cases_eq m b) [
       by_test (p b) (λ is. rw is (further_member b (filter p (range_with_len (b + 1) n)) m later)) (λ clear. rw clear later)
 ]
 
-faults_apart : (o : Shape) (p : ℕ → Bool) (b n : ℕ) → AreApart (map (λ k. fault_column o k) (filter p (range_with_len b n)))
+faults_apart : (o : Shape) (p : ℕ → Bool) (b n : ℕ)
+    → AreApart (map (λ k. fault_column o k) (filter p (range_with_len b n)))
 faults_apart o p b zero = tt
 faults_apart o p b (suc n) = by_test (p b)
     (λ is. subst (λ (v : Bool). AreApart (map (λ k. fault_column o k) (cond v (b ∷ filter p (range_with_len (b + 1) n)) (filter p (range_with_len (b + 1) n))))) (sym is) (
@@ -78,7 +80,8 @@ pub columns_apart : (o : Shape) (facts : List Fact) → IsOutline o → AreApart
 columns_apart o facts ok =
     apart_append (map edge_column o.edges) (map (λ n. fault_column o n) (filter (λ n. has_alarm facts n) (nodes_of o))) (edges_apart o.edges ok.edges_once) (faults_apart o (λ n. has_alarm facts n) 0 (length o.own)) clash
   where
-    clash : (c : Column) → Contains (map edge_column o.edges) c → Contains (map (λ n. fault_column o n) (filter (λ n. has_alarm facts n) (nodes_of o))) c → ⊥
+    clash : (c : Column) → Contains (map edge_column o.edges) c
+        → Contains (map (λ n. fault_column o n) (filter (λ n. has_alarm facts n) (nodes_of o))) c → ⊥
     clash c edge fault =
         let e = mapped edge_column o.edges c edge in
         let f = mapped (λ n. fault_column o n) (filter (λ n. has_alarm facts n) (nodes_of o)) c fault in
@@ -94,14 +97,16 @@ pub newest_low : (o : Shape) → IsOutline o → (k : ℕ) (past : List ℕ) →
 newest_low o ok k [] first = let some = ok.some in omega arith
 newest_low o ok k (m ∷ past) trace = trace.1
 
-edges_within : (o : Shape) (k : ℕ) (past : List ℕ) → IsTrace o (k ∷ past) → (s : Column) → Contains (edges_used (k ∷ past)) s → Contains (map edge_column o.edges) s
+edges_within : (o : Shape) (k : ℕ) (past : List ℕ) → IsTrace o (k ∷ past) → (s : Column)
+    → Contains (edges_used (k ∷ past)) s → Contains (map edge_column o.edges) s
 edges_within o k [] trace s there = no_member s there
 edges_within o k (m ∷ past) trace s there = elim (contains_cases (edge_column (m, k)) (edges_used (m ∷ past)) s there) [
   | inl e ↦ subst (λ (c : Column). Contains (map edge_column o.edges) c) (sym e) (image edge_column o.edges (m, k) trace.0)
   | inr later ↦ edges_within o m past trace.2 s later
 ]
 
-last_within : (o : Shape) (facts : List Fact) (fault : Bool) (k : ℕ) (past : List ℕ) → k < length o.own → EndsAt o facts fault (k ∷ past)
+last_within : (o : Shape) (facts : List Fact) (fault : Bool) (k : ℕ) (past : List ℕ) → k < length o.own
+    → EndsAt o facts fault (k ∷ past)
     → (let last : Column = record { from = k; into = length o.own; fault = fault } in Contains (columns_of o facts) last)
 last_within o facts true k past low ends =
     Contains-append_right (map edge_column o.edges) (map (λ n. fault_column o n) (filter (λ n. has_alarm facts n) (nodes_of o))) (fault_column o k)
@@ -110,7 +115,8 @@ last_within o facts false k past low ends =
     Contains-append_left (map edge_column o.edges) (map (λ n. fault_column o n) (filter (λ n. has_alarm facts n) (nodes_of o))) (edge_column (k, length o.own)) (image edge_column o.edges (k, length o.own) ends)
 
 -- each step of a run that is over is a column
-pub steps_within : (o : Shape) (facts : List Fact) → IsOutline o → (fault : Bool) (k : ℕ) (past : List ℕ) → IsEnded o facts fault (k ∷ past)
+pub steps_within : (o : Shape) (facts : List Fact) → IsOutline o → (fault : Bool) (k : ℕ) (past : List ℕ)
+    → IsEnded o facts fault (k ∷ past)
     → (s : Column) → Contains (steps_of o fault (k ∷ past)) s → Contains (columns_of o facts) s
 steps_within o facts ok fault k past run s there = elim (contains_cases (record { from = k; into = length o.own; fault = fault }) (edges_used (k ∷ past)) s there) [
   | inl e ↦ subst (λ (c : Column). Contains (columns_of o facts) c) (sym e) (last_within o facts fault k past (newest_low o ok k past run.trace) run.ends)

@@ -45,7 +45,8 @@ some_fit sum product v e = by_test (fits product && fits (sum +ℤ product))
     both false b e = absurd cc
 
 -- a place with a product
-product_here : (f : ℕ → ℤ) (b n : ℕ) (sum : ℤ) (next : Option ℤ) (more : ℤ → Result ℤ ℕ) → b < n → UpTo f b sum → summed sum (f b) ≡ next
+product_here : (f : ℕ → ℤ) (b n : ℕ) (sum : ℤ) (next : Option ℤ) (more : ℤ → Result ℤ ℕ) → b < n → UpTo f b sum
+    → summed sum (f b) ≡ next
     → ((v : ℤ) → UpTo f (b + 1) v → Sums n f (more v)) → Sums n f (with_sum b next more)
 product_here f b n sum None more below u e rest = wide_here n b f below u.narrow (subst (λ (z : ℤ). summed z (f b) ≡ None) u.is e)
 product_here f b n sum (Some v) more below u e rest =
@@ -69,6 +70,7 @@ from_row ys e f b n (r ∷ rows) sum long same u =
     (λ clear. rw clear (product_here f b n sum (summed sum (entry ys b *ℤ coefficient r.terms e)) (summed_terms ys (column_terms e (b + 1) rows)) (omega (arith, long)) u (ap (summed sum) here) rest))
 
 -- a column's sum by its terms
-pub column_summed : (p : Program) (ys : List ℤ) (e : ℕ) → Sums (length p.rows) (column_part p ys e) (summed_terms ys (column_terms e 0 p.rows) (pos 0))
+pub column_summed : (p : Program) (ys : List ℤ) (e : ℕ)
+    → Sums (length p.rows) (column_part p ys e) (summed_terms ys (column_terms e 0 p.rows) (pos 0))
 column_summed p ys e = from_row ys e (column_part p ys e) 0 (length p.rows) p.rows (pos 0) (omega arith)
     (λ j k is below. let at_row : k ≡ j = omega (arith, is) in rw at_row refl) (record { narrow = refl; is = refl; fit = refl })

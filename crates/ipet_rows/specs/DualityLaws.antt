@@ -22,7 +22,8 @@ times_rising a b m rising positive =
     omega (arith, ints, h, difference_times b a m)
 
 -- a row times its multiplier
-row_bound : (equation : Bool) (y v b : ℤ) → MeetsAs equation v b → (equation ≡ false → pos 0 ≤ℤ y) → (y *ℤ v) ≤ℤ (y *ℤ b)
+row_bound : (equation : Bool) (y v b : ℤ) → MeetsAs equation v b → (equation ≡ false → pos 0 ≤ℤ y)
+    → (y *ℤ v) ≤ℤ (y *ℤ b)
 row_bound true y v b same sign = rw same (omega (arith, ints))
 row_bound false y v b most sign = omega (arith, ints, times_rising v b y most (sign refl))
 
@@ -45,7 +46,8 @@ row_sum p y x k is =
     moved ∙ total_times n (entry y k) (λ e. coefficient ts e *ℤ x e) ∙ ap (λ (t : ℤ). entry y k *ℤ t) (total_terms n ts x (is k))
 
 -- weak duality, for any scale
-pub weak_parts : (p : Program) (scale : ℤ) (y : List ℤ) (x : ℕ → ℤ) (w : ℤ) → IsProgram p → ((k : ℕ) → k < length p.rows → (row_at p.rows k).equation ≡ false → pos 0 ≤ℤ entry y k)
+pub weak_parts : (p : Program) (scale : ℤ) (y : List ℤ) (x : ℕ → ℤ) (w : ℤ) → IsProgram p
+    → ((k : ℕ) → k < length p.rows → (row_at p.rows k).equation ≡ false → pos 0 ≤ℤ entry y k)
     → ((e : ℕ) → e < length p.costs → (scale *ℤ pos (cost_at p.costs e)) ≤ℤ column_sum p y e) → MeetsAll p x w
     → (scale *ℤ worth p x) ≤ℤ (dual_sum p y *ℤ w)
 weak_parts p scale y x w is signs columns meets =
@@ -77,6 +79,7 @@ weak_parts p scale y x w is signs columns meets =
     omega (arith, ints, costs, each_column, parts, exchanged, each_row, rights)
 
 -- weak duality
-pub weak_duality : (p : Program) (scale : ℤ) (y : List ℤ) (x : ℕ → ℤ) (w : ℤ) → IsProgram p → IsDual p scale y → MeetsAll p x w
+pub weak_duality : (p : Program) (scale : ℤ) (y : List ℤ) (x : ℕ → ℤ) (w : ℤ) → IsProgram p → IsDual p scale y
+    → MeetsAll p x w
     → (scale *ℤ worth p x) ≤ℤ (dual_sum p y *ℤ w)
 weak_duality p scale y x w is dual meets = weak_parts p scale y x w is dual.signs dual.columns meets

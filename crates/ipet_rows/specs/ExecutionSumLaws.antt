@@ -30,7 +30,8 @@ use Rattle.ipet_rows.specs.ExecutionSums.{number_of, places_in}
 
 -- ---- a node of the scope stands in executions alone
 
-pub places_closed : (n : ℕ) (part : List ℕ) (others : List (List ℕ)) → places_in n (with_closed part others) ≡ pos (places n part) +ℤ places_in n others
+pub places_closed : (n : ℕ) (part : List ℕ) (others : List (List ℕ))
+    → places_in n (with_closed part others) ≡ pos (places n part) +ℤ places_in n others
 places_closed n [] others = omega (arith, ints)
 places_closed n (m ∷ part) others = refl
 
@@ -50,7 +51,8 @@ all_places inside n (m ∷ past) held =
 
 -- ---- a run begins an execution where it enters the scope
 
-pub number_closed : (part : List ℕ) (others : List (List ℕ)) → number_of (with_closed part others) ≡ one_if (is_some_part part) +ℤ number_of others
+pub number_closed : (part : List ℕ) (others : List (List ℕ))
+    → number_of (with_closed part others) ≡ one_if (is_some_part part) +ℤ number_of others
 number_closed [] others = omega (arith, ints)
 number_closed (m ∷ part) others = refl
 
@@ -64,10 +66,12 @@ module _ (o : Shape) (ok : IsOutline o) (s : ℕ) (low : s < length o.scopes) (i
   none_outside : (k : ℕ) (past : List ℕ) → is_held o s k ≡ false → is_some_part (open_execution o s (k ∷ past)) ≡ false
   none_outside k past clear = rw clear refl
 
-  closed_inside : (k : ℕ) (past : List ℕ) → is_held o s k ≡ true → closed_executions o s (k ∷ past) ≡ closed_executions o s past
+  closed_inside : (k : ℕ) (past : List ℕ) → is_held o s k ≡ true
+      → closed_executions o s (k ∷ past) ≡ closed_executions o s past
   closed_inside k past is = rw is refl
 
-  closed_outside : (k : ℕ) (past : List ℕ) → is_held o s k ≡ false → closed_executions o s (k ∷ past) ≡ with_closed (open_execution o s past) (closed_executions o s past)
+  closed_outside : (k : ℕ) (past : List ℕ) → is_held o s k ≡ false
+      → closed_executions o s (k ∷ past) ≡ with_closed (open_execution o s past) (closed_executions o s past)
   closed_outside k past clear = rw clear refl
 
   none_both : (v : Bool) → one_if (v && false) ≡ pos 0
@@ -120,7 +124,8 @@ module _ (o : Shape) (ok : IsOutline o) (s : ℕ) (low : s < length o.scopes) (i
       rw other refl
 
   -- a run begins an execution of the scope where it enters it
-  pub begun : (fault : Bool) (k : ℕ) (past : List ℕ) → IsTrace o (k ∷ past) → weigh (λ c. begins o s c) (steps_of o fault (k ∷ past)) ≡ number_of (executions o s (k ∷ past))
+  pub begun : (fault : Bool) (k : ℕ) (past : List ℕ) → IsTrace o (k ∷ past)
+      → weigh (λ c. begins o s c) (steps_of o fault (k ∷ past)) ≡ number_of (executions o s (k ∷ past))
   begun fault k past trace =
       let edges = edges_begin k past trace in
       let last = last_begins fault k in
@@ -129,7 +134,8 @@ module _ (o : Shape) (ok : IsOutline o) (s : ℕ) (low : s < length o.scopes) (i
 
 -- ---- where each execution has the node low to high times
 
-pub between_sums : (n low high : ℕ) (es : List (List ℕ)) → ((e : List ℕ) → Contains es e → IsBetween low high (places n e))
+pub between_sums : (n low high : ℕ) (es : List (List ℕ))
+    → ((e : List ℕ) → Contains es e → IsBetween low high (places n e))
     → ((pos low *ℤ number_of es) ≤ℤ places_in n es) × (places_in n es ≤ℤ (pos high *ℤ number_of es))
 between_sums n low high [] each = (omega (arith, ints), omega (arith, ints))
 between_sums n low high (e ∷ es) each =
@@ -155,7 +161,8 @@ places_turned n (m ∷ nodes) =
 
 module _ (o : Shape) (ok : IsOutline o) (s n low high : ℕ) (within : s < length o.scopes) (inner : s ≢ 0) (held : Holds o s n) (fault : Bool) (k : ℕ) (past : List ℕ) (trace : IsTrace o (k ∷ past))
     (each : (execution : List ℕ) → IsExecution o s (reverse (k ∷ past)) execution → IsBetween low high (places n execution)) where
-  sums : ((pos low *ℤ number_of (executions o s (k ∷ past))) ≤ℤ places_in n (executions o s (k ∷ past))) × (places_in n (executions o s (k ∷ past)) ≤ℤ (pos high *ℤ number_of (executions o s (k ∷ past))))
+  sums : ((pos low *ℤ number_of (executions o s (k ∷ past))) ≤ℤ places_in n (executions o s (k ∷ past)))
+      × (places_in n (executions o s (k ∷ past)) ≤ℤ (pos high *ℤ number_of (executions o s (k ∷ past))))
   sums = between_sums n low high (executions o s (k ∷ past)) (λ e there. subst (λ (j : ℕ). IsBetween low high j) (places_turned n e) (each (reverse e) (found_execution o ok s (k ∷ past) e there)))
 
   all_in : places_in n (executions o s (k ∷ past)) ≡ pos (places n (k ∷ past))

@@ -28,7 +28,8 @@ of_all : {A : Type 0} (P : A → Type 0) (xs : List A) → All P xs → (x : A) 
 of_all P xs all x there = subst P there.2 (all there.0 x there.1)
 
 module _ (o : Shape) (ok : IsOutline o) (facts : List Fact) (fault : Bool) (k : ℕ) (past : List ℕ) (run : IsEnded o facts fault (k ∷ past)) (fits : FitOutline o facts) (met : MeetFacts o (reverse (k ∷ past)) facts) where
-  pair_rows_met : (f : Fact) → FitsOutline o f → Meets o (reverse (k ∷ past)) f → All (λ w. IsMet (steps_of o fault (k ∷ past)) w) (pair_rows o f)
+  pair_rows_met : (f : Fact) → FitsOutline o f → Meets o (reverse (k ∷ past)) f
+      → All (λ w. IsMet (steps_of o fault (k ∷ past)) w) (pair_rows o f)
   pair_rows_met (Pair s a b) shape apart =
       All-cons (λ w. IsMet (steps_of o fault (k ∷ past)) w) (record { equation = false; weight = λ c. (leaves a c +ℤ leaves b c) -ℤ leaves (header_of o.scopes s) c; right = pos 0 }) []
       (pair_met o ok s a b shape.0 shape.3 shape.4 shape.5 shape.6 fault k past run.trace apart) (All-nil (λ w. IsMet (steps_of o fault (k ∷ past)) w))
@@ -59,7 +60,8 @@ module _ (o : Shape) (ok : IsOutline o) (facts : List Fact) (fault : Bool) (k : 
       (All-append P (take most_pairs (flat_map (λ f. pair_rows o f) facts)) (flat_map (λ f. count_rows o f) facts) pairs counts))))
 
   -- so the column counts meet the program
-  pub feasible : (costs : List ℕ) → MeetsAll (program_of o costs facts) (column_counts (columns_of o facts) (steps_of o fault (k ∷ past))) (pos 1)
+  pub feasible : (costs : List ℕ)
+      → MeetsAll (program_of o costs facts) (column_counts (columns_of o facts) (steps_of o fault (k ∷ past))) (pos 1)
   feasible costs = record {
     columns = λ e. none_below (number_at (map (λ c. uses c (steps_of o fault (k ∷ past))) (columns_of o facts)) e);
     meets = rows_meet (columns_of o facts) (steps_of o fault (k ∷ past)) (weighings o facts) (columns_apart o facts ok) (steps_within o facts ok fault k past run) all_met;

@@ -16,7 +16,8 @@ first_stays n (suc m) f v e below = ⊎_elim
     (cases_eq n (suc m))
 
 -- the first answer comes at n
-pub first_here : {A : Type 0} (n m : ℕ) (f : ℕ → Option A) (v : A) → first n f ≡ None → f n ≡ Some v → n < m → first m f ≡ Some v
+pub first_here : {A : Type 0} (n m : ℕ) (f : ℕ → Option A) (v : A) → first n f ≡ None → f n ≡ Some v → n < m
+    → first m f ≡ Some v
 first_here n m f v none here below =
     let e : first (suc n) f ≡ Some v = rw (none, here) refl in
     first_stays (suc n) m f v e (omega arith)
@@ -33,7 +34,8 @@ sum_wide k f e = ⊎_elim
     (λ (no_ : (fits (f k) && fits (total k f +ℤ f k)) ≡ false). rw no_ refl)
     (cases_Bool (fits (f k) && fits (total k f +ℤ f k)))
 
-sum_narrow : (k : ℕ) (f : ℕ → ℤ) (v : ℤ) → summed (total k f) (f k) ≡ Some v → (wide_at f k ≡ None) × (v ≡ total (suc k) f)
+sum_narrow : (k : ℕ) (f : ℕ → ℤ) (v : ℤ) → summed (total k f) (f k) ≡ Some v
+    → (wide_at f k ≡ None) × (v ≡ total (suc k) f)
 sum_narrow k f v e = ⊎_elim
     (λ (yes_ : (fits (f k) && fits (total k f +ℤ f k)) ≡ true).
     let z : summed (total k f) (f k) ≡ Some (total k f +ℤ f k) = rw yes_ refl in (rw yes_ refl, cc))
@@ -41,10 +43,12 @@ sum_narrow k f v e = ⊎_elim
     let z : summed (total k f) (f k) ≡ None = rw no_ refl in absurd cc)
     (cases_Bool (fits (f k) && fits (total k f +ℤ f k)))
 
-pub wide_here : (n k : ℕ) (f : ℕ → ℤ) → k < n → first_wide k f ≡ None → summed (total k f) (f k) ≡ None → first_wide n f ≡ Some k
+pub wide_here : (n k : ℕ) (f : ℕ → ℤ) → k < n → first_wide k f ≡ None → summed (total k f) (f k) ≡ None
+    → first_wide n f ≡ Some k
 wide_here n k f below none e = first_here k n (wide_at f) k none (sum_wide k f e) below
 
-pub narrow_here : (k : ℕ) (f : ℕ → ℤ) (v : ℤ) → first_wide k f ≡ None → summed (total k f) (f k) ≡ Some v → (v ≡ total (k + 1) f) × (first_wide (k + 1) f ≡ None)
+pub narrow_here : (k : ℕ) (f : ℕ → ℤ) (v : ℤ) → first_wide k f ≡ None → summed (total k f) (f k) ≡ Some v
+    → (v ≡ total (k + 1) f) × (first_wide (k + 1) f ≡ None)
 narrow_here k f v none e =
     let n = sum_narrow k f v e in
     (rw add-one n.1, first_none k (wide_at f) none n.0)

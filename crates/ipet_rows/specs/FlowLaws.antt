@@ -21,11 +21,13 @@ use Rattle.ipet_rows.specs.UseLaws.{weigh}
 
 -- ---- sums of weights
 
-pub weigh_plus : (f g : Column → ℤ) (steps : List Column) → weigh (λ c. f c +ℤ g c) steps ≡ weigh f steps +ℤ weigh g steps
+pub weigh_plus : (f g : Column → ℤ) (steps : List Column)
+    → weigh (λ c. f c +ℤ g c) steps ≡ weigh f steps +ℤ weigh g steps
 weigh_plus f g [] = refl
 weigh_plus f g (s ∷ steps) = omega (arith, ints, weigh_plus f g steps)
 
-pub weigh_minus : (f g : Column → ℤ) (steps : List Column) → weigh (λ c. f c -ℤ g c) steps ≡ weigh f steps -ℤ weigh g steps
+pub weigh_minus : (f g : Column → ℤ) (steps : List Column)
+    → weigh (λ c. f c -ℤ g c) steps ≡ weigh f steps -ℤ weigh g steps
 weigh_minus f g [] = refl
 weigh_minus f g (s ∷ steps) = omega (arith, ints, weigh_minus f g steps)
 
@@ -49,11 +51,13 @@ edges_left n k [] = refl
 edges_left n k (m ∷ past) = ap (λ (z : ℤ). one_if (n == m) +ℤ z) (edges_left n m past) ∙ sym (place_more n m past)
 
 -- a run leaves each node as often as it is there
-pub left : (o : Shape) (fault : Bool) (n k : ℕ) (past : List ℕ) → weigh (λ c. leaves n c) (steps_of o fault (k ∷ past)) ≡ pos (places n (k ∷ past))
+pub left : (o : Shape) (fault : Bool) (n k : ℕ) (past : List ℕ)
+    → weigh (λ c. leaves n c) (steps_of o fault (k ∷ past)) ≡ pos (places n (k ∷ past))
 left o fault n k past = ap (λ (z : ℤ). one_if (n == k) +ℤ z) (edges_left n k past) ∙ sym (place_more n k past)
 
 -- edges enter all nodes but the first, which is node 0
-edges_entered : (o : Shape) (n k : ℕ) (past : List ℕ) → IsTrace o (k ∷ past) → weigh (λ c. enters n c) (edges_used (k ∷ past)) +ℤ one_if (n == 0) ≡ pos (places n (k ∷ past))
+edges_entered : (o : Shape) (n k : ℕ) (past : List ℕ) → IsTrace o (k ∷ past)
+    → weigh (λ c. enters n c) (edges_used (k ∷ past)) +ℤ one_if (n == 0) ≡ pos (places n (k ∷ past))
 edges_entered o n k [] first =
     let more = place_more n k [] in
     let none : pos (places n []) ≡ pos 0 = refl in
@@ -81,7 +85,8 @@ flow_is o fault n k past trace low =
 
 -- ---- costs
 
-edges_cost : (costs : List ℕ) (k : ℕ) (past : List ℕ) → weigh (λ c. pos (cost_of costs c)) (edges_used (k ∷ past)) ≡ pos (run_cost costs past)
+edges_cost : (costs : List ℕ) (k : ℕ) (past : List ℕ)
+    → weigh (λ c. pos (cost_of costs c)) (edges_used (k ∷ past)) ≡ pos (run_cost costs past)
 edges_cost costs k [] = refl
 edges_cost costs k (m ∷ past) =
     ap (λ (z : ℤ). pos (slice_index costs m) +ℤ z) (edges_cost costs m past)

@@ -39,7 +39,8 @@ some_further k [] = refl
 some_further k (m ∷ part) = refl
 
 -- a further node of an iteration that there is
-places_further : (n k : ℕ) (part : List ℕ) → is_some_part part ≡ true → pos (places n (further k part)) ≡ one_if (n == k) +ℤ pos (places n part)
+places_further : (n k : ℕ) (part : List ℕ) → is_some_part part ≡ true
+    → pos (places n (further k part)) ≡ one_if (n == k) +ℤ pos (places n part)
 places_further n k [] some = let bad : false ≡ true = some in absurd (cc)
 places_further n k (m ∷ part) some = place_more n k (m ∷ part)
 
@@ -66,7 +67,8 @@ module _ (o : Shape) (ok : IsOutline o) (s : ℕ) (low : s < length o.scopes) wh
   stops_at k past clear = (rw clear refl, rw clear refl)
 
   -- where a run is in the scope, an iteration is not over
-  some_open : (k : ℕ) (past : List ℕ) → IsTrace o (k ∷ past) → is_held o s k ≡ true → is_some_part (open_iteration o s (k ∷ past)) ≡ true
+  some_open : (k : ℕ) (past : List ℕ) → IsTrace o (k ∷ past) → is_held o s k ≡ true
+      → is_some_part (open_iteration o s (k ∷ past)) ≡ true
   some_open k [] first held =
       let zero_held : Holds o s 0 = subst (λ (n : ℕ). Holds o s n) first (held_is o ok s k held) in
       let at_header : k ≡ header_of o.scopes s = first ∙ sym (ap (λ (r : ℕ). header_of o.scopes r) (ok.first_alone s zero_held) ∙ ok.first_scope.0) in
@@ -80,11 +82,13 @@ module _ (o : Shape) (ok : IsOutline o) (s : ℕ) (low : s < length o.scopes) wh
   ]
 
   -- a node that goes on comes after one in the scope
-  before_goes : (k : ℕ) (past : List ℕ) → IsTrace o (k ∷ past) → is_held o s k ≡ true → (k ≡ header_of o.scopes s → ⊥) → is_some_part (open_iteration o s past) ≡ true
+  before_goes : (k : ℕ) (past : List ℕ) → IsTrace o (k ∷ past) → is_held o s k ≡ true → (k ≡ header_of o.scopes s → ⊥)
+      → is_some_part (open_iteration o s past) ≡ true
   before_goes k past trace held other = sym (some_further k (open_iteration o s past)) ∙ sym (ap is_some_part (goes_to k past held other).0) ∙ some_open k past trace held
 
   -- the same with one node more
-  hold_step : (n : ℕ) → is_held o s n ≡ true → (n ≡ header_of o.scopes s → ⊥) → (k : ℕ) (past : List ℕ) → IsTrace o (k ∷ past)
+  hold_step : (n : ℕ) → is_held o s n ≡ true → (n ≡ header_of o.scopes s → ⊥) → (k : ℕ) (past : List ℕ)
+      → IsTrace o (k ∷ past)
       → pos (places n (open_iteration o s past)) +ℤ places_in n (closed_iterations o s past) ≡ pos (places n past)
       → pos (places n (open_iteration o s (k ∷ past))) +ℤ places_in n (closed_iterations o s (k ∷ past)) ≡ pos (places n (k ∷ past))
   hold_step n in_scope no_header k past trace rest = elim (cases_eq k (header_of o.scopes s)) [
@@ -146,7 +150,8 @@ module _ (o : Shape) (ok : IsOutline o) (s : ℕ) (low : s < length o.scopes) wh
   ]
 
   -- a node of the scope other than the header stands in iterations alone
-  parts_hold : (n : ℕ) → is_held o s n ≡ true → (n ≡ header_of o.scopes s → ⊥) → (k : ℕ) (past : List ℕ) → IsTrace o (k ∷ past)
+  parts_hold : (n : ℕ) → is_held o s n ≡ true → (n ≡ header_of o.scopes s → ⊥) → (k : ℕ) (past : List ℕ)
+      → IsTrace o (k ∷ past)
       → pos (places n (open_iteration o s (k ∷ past))) +ℤ places_in n (closed_iterations o s (k ∷ past)) ≡ pos (places n (k ∷ past))
   parts_hold n in_scope no_header k [] trace = hold_step n in_scope no_header k [] trace refl
   parts_hold n in_scope no_header k (m ∷ past) trace = hold_step n in_scope no_header k (m ∷ past) trace (parts_hold n in_scope no_header m past trace.2)
@@ -245,7 +250,8 @@ module _ (o : Shape) (ok : IsOutline o) (s : ℕ) (low : s < length o.scopes) wh
 
 -- ---- two nodes that are in no iteration together
 
-pair_sums : (a b : ℕ) (es : List (List ℕ)) → ((e : List ℕ) → Contains es e → places a e + places b e ≤ 1) → (places_in a es +ℤ places_in b es) ≤ℤ number_of es
+pair_sums : (a b : ℕ) (es : List (List ℕ)) → ((e : List ℕ) → Contains es e → places a e + places b e ≤ 1)
+    → (places_in a es +ℤ places_in b es) ≤ℤ number_of es
 pair_sums a b [] each = omega (arith, ints)
 pair_sums a b (e ∷ es) each =
     let rest = pair_sums a b es (λ d there. each d (further_member e es d there)) in
@@ -275,7 +281,8 @@ module _ (o : Shape) (ok : IsOutline o) (s a b : ℕ) (low : s < length o.scopes
   held_node : (n : ℕ) → get_or o.own n 0 ≡ s → is_held o s n ≡ true
   held_node n own = is_holder o ok s n (subst (λ (j : ℕ). LeadsTo o.scopes s j) (sym own) here)
 
-  all_in : (n : ℕ) → get_or o.own n 0 ≡ s → (n ≡ header_of o.scopes s → ⊥) → places_in n (iterations o s (k ∷ past)) ≡ pos (places n (k ∷ past))
+  all_in : (n : ℕ) → get_or o.own n 0 ≡ s → (n ≡ header_of o.scopes s → ⊥)
+      → places_in n (iterations o s (k ∷ past)) ≡ pos (places n (k ∷ past))
   all_in n own no_header = places_closed n (open_iteration o s (k ∷ past)) (closed_iterations o s (k ∷ past)) ∙ parts_hold o ok s low n (held_node n own) no_header k past trace
 
   pub pair_met : weigh (λ c. (leaves a c +ℤ leaves b c) -ℤ leaves (header_of o.scopes s) c) (steps_of o fault (k ∷ past)) ≤ℤ pos 0

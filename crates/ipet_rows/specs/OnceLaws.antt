@@ -23,7 +23,8 @@ module _ (o : Shape) (ok : IsOutline o) where
       elim (contains_cases 0 [] d there) [ inl same ↦ same ∙ sym first | inr none ↦ no_member d none ]
 
   -- of two nodes not each dominates the other
-  pub no_mutual : (a b : ℕ) → a ≢ b → Dominates (IsEdge o.edges) a b → Dominates (IsEdge o.edges) b a → (k : ℕ) (past : List ℕ) → IsTrace o (k ∷ past)
+  pub no_mutual : (a b : ℕ) → a ≢ b → Dominates (IsEdge o.edges) a b → Dominates (IsEdge o.edges) b a
+      → (k : ℕ) (past : List ℕ) → IsTrace o (k ∷ past)
       → Dominates (IsEdge o.edges) a k ⊎ Dominates (IsEdge o.edges) b k → ⊥
   no_mutual a b apart ab ba k [] first either = elim either [
     | inl of_a ↦
@@ -45,7 +46,8 @@ module _ (o : Shape) (ok : IsOutline o) where
   ]
 
   -- where a scope around another begins at a node of it, both begin there
-  pub header_around : (s t k : ℕ) (past : List ℕ) → IsTrace o (k ∷ past) → s < length o.scopes → Holds o s k → LeadsTo o.scopes t s
+  pub header_around : (s t k : ℕ) (past : List ℕ) → IsTrace o (k ∷ past) → s < length o.scopes → Holds o s k
+      → LeadsTo o.scopes t s
       → header_of o.scopes t ≡ k → header_of o.scopes s ≡ k
   header_around s t k past trace low held around at_header = elim (cases_eq (header_of o.scopes s) k) [
     | inl e ↦ e
@@ -60,7 +62,8 @@ module _ (o : Shape) (ok : IsOutline o) where
     -- the rank of the node, and of each scope in s that holds it, is above that of a
     record IsAbove (z : ℕ) : Type 0 where
       pub itself : get_or o.ranks a 0 < get_or o.ranks z 0
-      pub scopes : (c : ℕ) → Holds o c z → (LeadsTo o.scopes c s → ⊥) → get_or o.ranks a 0 < get_or o.ranks (header_of o.scopes c) 0
+      pub scopes : (c : ℕ) → Holds o c z → (LeadsTo o.scopes c s → ⊥)
+          → get_or o.ranks a 0 < get_or o.ranks (header_of o.scopes c) 0
 
     -- the node a itself, or one above it
     data IsFrom (y : ℕ) : Type 0 where
@@ -71,12 +74,14 @@ module _ (o : Shape) (ok : IsOutline o) where
     no_less y (same e) = let equal = ap (λ (n : ℕ). get_or o.ranks n 0) e in omega arith
     no_less y (above r) = let more = r.itself in omega arith
 
-    scope_above : (y c : ℕ) → IsFrom y → Holds o c y → (LeadsTo o.scopes c s → ⊥) → get_or o.ranks a 0 < get_or o.ranks (header_of o.scopes c) 0
+    scope_above : (y c : ℕ) → IsFrom y → Holds o c y → (LeadsTo o.scopes c s → ⊥)
+        → get_or o.ranks a 0 < get_or o.ranks (header_of o.scopes c) 0
     scope_above y c (same e) held outside = absurd (outside (subst (λ (r : ℕ). LeadsTo o.scopes c r) (ap (λ (n : ℕ). get_or o.own n 0) e ∙ own) held))
     scope_above y c (above r) held outside = r.scopes c held outside
 
     -- one node further
-    step_above : (y z : ℕ) (past : List ℕ) → IsTrace o (z ∷ y ∷ past) → IsFrom y → Holds o s z → (z ≡ header_of o.scopes s → ⊥) → IsAbove z
+    step_above : (y z : ℕ) (past : List ℕ) → IsTrace o (z ∷ y ∷ past) → IsFrom y → Holds o s z
+        → (z ≡ header_of o.scopes s → ⊥) → IsAbove z
     step_above y z past trace from held other = record { itself = itself; scopes = λ c in_c outside. by_entry c in_c outside }
       where
         z_low : z < length o.own
@@ -92,19 +97,22 @@ module _ (o : Shape) (ok : IsOutline o) where
               subst (λ (n : ℕ). get_or o.ranks a 0 < get_or o.ranks n 0) at_header (scope_above y loop.0 from loop.4 outside)
         ]
 
-        by_entry : (c : ℕ) → Holds o c z → (LeadsTo o.scopes c s → ⊥) → get_or o.ranks a 0 < get_or o.ranks (header_of o.scopes c) 0
+        by_entry : (c : ℕ) → Holds o c z → (LeadsTo o.scopes c s → ⊥)
+            → get_or o.ranks a 0 < get_or o.ranks (header_of o.scopes c) 0
         by_entry c in_c outside = elim (ok.entered y z c trace.0 z_low (holder_low o ok c z z_low in_c) in_c) [
           | inl e ↦ subst (λ (n : ℕ). get_or o.ranks a 0 < get_or o.ranks n 0) e itself
           | inr before ↦ scope_above y c from before outside
         ]
 
     -- on the way from a, without the header, ranks stay above its own
-    climbs : (mid : List ℕ) (z : ℕ) → IsTrace o (z ∷ mid ++ a ∷ older) → ((n : ℕ) → Contains (z ∷ mid) n → Holds o s n × (n ≡ header_of o.scopes s → ⊥)) → IsAbove z
+    climbs : (mid : List ℕ) (z : ℕ) → IsTrace o (z ∷ mid ++ a ∷ older)
+        → ((n : ℕ) → Contains (z ∷ mid) n → Holds o s n × (n ≡ header_of o.scopes s → ⊥)) → IsAbove z
     climbs [] z trace all = let is = all z (first_member z []) in step_above a z older trace (same refl) is.0 is.1
     climbs (y ∷ mid) z trace all =
         let is = all z (first_member z (y ∷ mid)) in
         step_above y z (mid ++ a ∷ older) trace (above (climbs mid y trace.2 (λ n there. all n (further_member z (y ∷ mid) n there)))) is.0 is.1
 
     -- so a does not come back before the header
-    pub once : (mid : List ℕ) → IsTrace o (a ∷ mid ++ a ∷ older) → ((n : ℕ) → Contains (a ∷ mid) n → Holds o s n × (n ≡ header_of o.scopes s → ⊥)) → ⊥
+    pub once : (mid : List ℕ) → IsTrace o (a ∷ mid ++ a ∷ older)
+        → ((n : ℕ) → Contains (a ∷ mid) n → Holds o s n × (n ≡ header_of o.scopes s → ⊥)) → ⊥
     once mid trace all = let more = (climbs mid a trace all).itself in omega arith

@@ -48,10 +48,12 @@ module _ (o : Shape) (ok : IsOutline o) (fault : Bool) (k : ℕ) (past : List �
   none : All (λ w. IsMet (steps_of o fault (k ∷ past)) w) []
   none = All-nil (λ w. IsMet (steps_of o fault (k ∷ past)) w)
 
-  two : (v w : Weighing) → IsMet (steps_of o fault (k ∷ past)) v → IsMet (steps_of o fault (k ∷ past)) w → All (λ w. IsMet (steps_of o fault (k ∷ past)) w) (v ∷ w ∷ [])
+  two : (v w : Weighing) → IsMet (steps_of o fault (k ∷ past)) v → IsMet (steps_of o fault (k ∷ past)) w
+      → All (λ w. IsMet (steps_of o fault (k ∷ past)) w) (v ∷ w ∷ [])
   two v w first second = All-cons (λ w. IsMet (steps_of o fault (k ∷ past)) w) v (w ∷ []) first (All-cons (λ w. IsMet (steps_of o fault (k ∷ past)) w) w [] second none)
 
-  pub loop_met : (f : Fact) → FitsOutline o f → Meets o (reverse (k ∷ past)) f → All (λ w. IsMet (steps_of o fault (k ∷ past)) w) (loop_rows o f)
+  pub loop_met : (f : Fact) → FitsOutline o f → Meets o (reverse (k ∷ past)) f
+      → All (λ w. IsMet (steps_of o fault (k ∷ past)) w) (loop_rows o f)
   loop_met (Loop s low high) fits met =
       let header = header_of o.scopes s in
       two (record { equation = false; weight = λ c. leaves header c -ℤ (pos high *ℤ begins o s c); right = pos 0 })
@@ -64,7 +66,8 @@ module _ (o : Shape) (ok : IsOutline o) (fault : Bool) (k : ℕ) (past : List �
   loop_met (Pair s a b) fits met = none
   loop_met (Alarm n why) fits met = none
 
-  pub count_met : (f : Fact) → FitsOutline o f → Meets o (reverse (k ∷ past)) f → All (λ w. IsMet (steps_of o fault (k ∷ past)) w) (count_rows o f)
+  pub count_met : (f : Fact) → FitsOutline o f → Meets o (reverse (k ∷ past)) f
+      → All (λ w. IsMet (steps_of o fault (k ∷ past)) w) (count_rows o f)
   count_met (Count s n low high) fits met =
       let held : Holds o s n = subst (λ (j : ℕ). LeadsTo o.scopes s j) (sym fits.3) here in
       two (record { equation = false; weight = λ c. leaves n c -ℤ (pos high *ℤ begins o s c); right = pos 0 })
@@ -77,7 +80,8 @@ module _ (o : Shape) (ok : IsOutline o) (fault : Bool) (k : ℕ) (past : List �
   count_met (Pair s a b) fits met = none
   count_met (Alarm n why) fits met = none
 
-  pub dead_met : (f : Fact) → FitsOutline o f → Meets o (reverse (k ∷ past)) f → All (λ w. IsMet (steps_of o fault (k ∷ past)) w) (dead_rows f)
+  pub dead_met : (f : Fact) → FitsOutline o f → Meets o (reverse (k ∷ past)) f
+      → All (λ w. IsMet (steps_of o fault (k ∷ past)) w) (dead_rows f)
   dead_met (Dead n) fits met =
       let out = left o fault n k past in
       let turned : places n (k ∷ past) ≡ 0 = sym (places_turned n (k ∷ past)) ∙ met in
@@ -88,7 +92,8 @@ module _ (o : Shape) (ok : IsOutline o) (fault : Bool) (k : ℕ) (past : List �
   dead_met (Pair s a b) fits met = none
   dead_met (Alarm n why) fits met = none
 
-  pub total_met : (f : Fact) → FitsOutline o f → Meets o (reverse (k ∷ past)) f → All (λ w. IsMet (steps_of o fault (k ∷ past)) w) (total_rows f)
+  pub total_met : (f : Fact) → FitsOutline o f → Meets o (reverse (k ∷ past)) f
+      → All (λ w. IsMet (steps_of o fault (k ∷ past)) w) (total_rows f)
   total_met (Total n low high) fits met =
       let out = left o fault n k past in
       let turned = places_turned n (k ∷ past) in
@@ -110,19 +115,22 @@ module _ (o : Shape) (ok : IsOutline o) (fault : Bool) (k : ℕ) (past : List �
 -- ---- the program
 
 -- one row
-meets_one : (cs steps : List Column) (w : Weighing) → AreApart cs → ((s : Column) → Contains steps s → Contains cs s) → IsMet steps w
+meets_one : (cs steps : List Column) (w : Weighing) → AreApart cs → ((s : Column) → Contains steps s → Contains cs s)
+    → IsMet steps w
     → MeetsRow (row_of cs w) (column_counts cs steps) (pos 1)
 meets_one cs steps w apart within met = by w.equation met
   where
     value : value_at (row_of cs w).terms (column_counts cs steps) ≡ weigh w.weight steps
     value = row_value w.weight cs steps apart within
 
-    by : (v : Bool) → MeetsAs v (weigh w.weight steps) w.right → MeetsAs v (value_at (row_of cs w).terms (column_counts cs steps)) (w.right *ℤ pos 1)
+    by : (v : Bool) → MeetsAs v (weigh w.weight steps) w.right
+        → MeetsAs v (value_at (row_of cs w).terms (column_counts cs steps)) (w.right *ℤ pos 1)
     by true is = omega (arith, ints, value, is)
     by false is = omega (arith, ints, value, is)
 
 -- where all rows are met, the uses of the columns meet each
-pub rows_meet : (cs steps : List Column) (ws : List Weighing) → AreApart cs → ((s : Column) → Contains steps s → Contains cs s) → All (λ w. IsMet steps w) ws
+pub rows_meet : (cs steps : List Column) (ws : List Weighing) → AreApart cs
+    → ((s : Column) → Contains steps s → Contains cs s) → All (λ w. IsMet steps w) ws
     → (k : ℕ) → k < length (map (λ w. row_of cs w) ws) → MeetsRow (row_at (map (λ w. row_of cs w) ws) k) (column_counts cs steps) (pos 1)
 rows_meet cs steps [] apart within all k low = absurd (omega arith)
 rows_meet cs steps (w ∷ ws) apart within all zero low = meets_one cs steps w apart within (All-head (λ w. IsMet steps w) w ws all)
@@ -141,6 +149,7 @@ total_of price count (c ∷ cs) =
     ∙ ap (λ (z : ℤ). (pos (price c) *ℤ pos (count c)) +ℤ z) (total_of price count cs)
 
 -- what the uses are worth
-pub worth_of : (costs : List ℕ) (cs steps : List Column) → AreApart cs → ((s : Column) → Contains steps s → Contains cs s)
+pub worth_of : (costs : List ℕ) (cs steps : List Column) → AreApart cs
+    → ((s : Column) → Contains steps s → Contains cs s)
     → total (length (map (λ c. cost_of costs c) cs)) (λ e. pos (cost_at (map (λ c. cost_of costs c) cs) e) *ℤ column_counts cs steps e) ≡ weigh (λ c. pos (cost_of costs c)) steps
 worth_of costs cs steps apart within = total_of (λ c. cost_of costs c) (λ c. uses c steps) cs ∙ all_uses (λ c. pos (cost_of costs c)) cs steps apart within

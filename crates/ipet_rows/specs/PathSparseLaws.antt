@@ -33,7 +33,8 @@ none_before f e k (c ∷ cs) less =
     by_test (vanishes (f c)) (λ none. rw none rest) (λ some. rw (some, other) (omega (arith, ints, rest)))
 
 -- what the terms have at a column is its weight
-pub coefficient_is : (f : Column → ℤ) (e : ℕ) (cs : List Column) (j k : ℕ) → k ≡ e + j → coefficient (terms_from f e cs) k ≡ weight_at f cs j
+pub coefficient_is : (f : Column → ℤ) (e : ℕ) (cs : List Column) (j k : ℕ) → k ≡ e + j
+    → coefficient (terms_from f e cs) k ≡ weight_at f cs j
 coefficient_is f e [] j k is = refl
 coefficient_is f e (c ∷ cs) zero k is =
     let rest = none_before f (e + 1) k cs (omega arith) in

@@ -28,5 +28,6 @@ part_not_below (p ∷ ps) zero are = let w = whole_above ps are.2 in not_below p
 part_not_below (p ∷ ps) (suc e) are = let d = are.1 in not_below p.1 (part_of ps e) (omega (arith, ints, d)) (part_not_below ps e are.2)
 
 -- a feasible point meets each row
-pub point_meets_all : (p : Program) (point : List (ℤ × ℤ)) → IsPoint p point → IsFeasible p point → MeetsAll p (part_of point) (whole_of point)
+pub point_meets_all : (p : Program) (point : List (ℤ × ℤ)) → IsPoint p point → IsFeasible p point
+    → MeetsAll p (part_of point) (whole_of point)
 point_meets_all p point is feasible = record { columns = λ e. part_not_below point e is.fractions; meets = feasible }

@@ -7,7 +7,8 @@ use Rattle.domain_core.specs.Outlines.{Shape, header_of, kind_of}
 use Rattle.flow_facts.specs.declared.fact.Fact.{Fact}
 use Rattle.flow_facts.specs.declared.fact.Fact.TheVariants.{Loop, Count, Dead, Total, Pair, Alarm}
 
--- what the fact names is there, a loop is a loop, and nodes of a count or a pair have the scope as their own and are not its header
+-- what the fact names is there, a loop is a loop, and nodes of a count or a pair have the scope as their own and are
+-- not its header
 abbrev pub FitsOutline : Shape → Fact → Type 0
 FitsOutline o (Loop s low high) = (s < length o.scopes) × (kind_of o.scopes s ≡ LoopScope)
 FitsOutline o (Count s n low high) = (s < length o.scopes) × (kind_of o.scopes s ≡ LoopScope) × (n < length o.own) × (slice_index o.own n ≡ s) × (header_of o.scopes s ≢ n)

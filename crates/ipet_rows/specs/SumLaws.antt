@@ -60,7 +60,8 @@ total_most (suc n) f g most =
     omega (arith, ints, total_most n f g (λ j below. most j (omega arith)), most n (omega arith))
 
 -- two sums exchanged
-pub total_exchange : (n m : ℕ) (f : ℕ → ℕ → ℤ) → total n (λ e. total m (λ k. f e k)) ≡ total m (λ k. total n (λ e. f e k))
+pub total_exchange : (n m : ℕ) (f : ℕ → ℕ → ℤ)
+    → total n (λ e. total m (λ k. f e k)) ≡ total m (λ k. total n (λ e. f e k))
 total_exchange zero m f = sym (total_nothing m (λ k. pos 0) (λ j below. refl))
 total_exchange (suc n) m f =
     rw (total_exchange n m f) (sym (total_plus m (λ k. total n (λ e. f e k)) (f n)))
@@ -78,7 +79,8 @@ total_one (suc n) c a x below = ⊎_elim
     (cases_eq c n)
 
 -- the sum over the columns of coefficient times value is the terms' value
-pub total_terms : (n : ℕ) (ts : List (ℕ × ℤ)) (x : ℕ → ℤ) → IsWithin n ts → total n (λ e. coefficient ts e *ℤ x e) ≡ value_at ts x
+pub total_terms : (n : ℕ) (ts : List (ℕ × ℤ)) (x : ℕ → ℤ) → IsWithin n ts
+    → total n (λ e. coefficient ts e *ℤ x e) ≡ value_at ts x
 total_terms n [] x within = total_nothing n (λ e. pos 0 *ℤ x e) (λ j below. omega (arith, ints))
 total_terms n (t ∷ ts) x within =
     let apart : total n (λ e. (coefficient_of t e +ℤ coefficient ts e) *ℤ x e) ≡ total n (λ e. (coefficient_of t e *ℤ x e) +ℤ (coefficient ts e *ℤ x e)) =

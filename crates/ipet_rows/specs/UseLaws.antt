@@ -1,4 +1,5 @@
--- What a run uses of the columns, weighed: the sum over the columns of weight times uses is the sum of the weights of what is used.
+-- What a run uses of the columns, weighed: the sum over the columns of weight times uses is the sum of the weights of
+-- what is used.
 --   weigh f steps          the sum of the weights
 --   weighted f u cs        the sum over the columns of weight times value
 --   AreApart cs            no column stands twice
@@ -63,13 +64,15 @@ weighted_none : (f : Column → ℤ) (cs : List Column) → weighted f (λ c. po
 weighted_none f [] = refl
 weighted_none f (c ∷ cs) = omega (arith, ints, weighted_none f cs)
 
-weighted_more : (f u v : Column → ℤ) (cs : List Column) → weighted f (λ c. u c +ℤ v c) cs ≡ weighted f u cs +ℤ weighted f v cs
+weighted_more : (f u v : Column → ℤ) (cs : List Column)
+    → weighted f (λ c. u c +ℤ v c) cs ≡ weighted f u cs +ℤ weighted f v cs
 weighted_more f u v [] = refl
 weighted_more f u v (c ∷ cs) =
     let here : f c *ℤ (u c +ℤ v c) ≡ (f c *ℤ u c) +ℤ (f c *ℤ v c) = omega (arith, ints, sum_times (u c) (v c) (f c)) in
     omega (arith, ints, weighted_more f u v cs, here)
 
-pub weighted_same : (f u v : Column → ℤ) (cs : List Column) → ((c : Column) → Contains cs c → u c ≡ v c) → weighted f u cs ≡ weighted f v cs
+pub weighted_same : (f u v : Column → ℤ) (cs : List Column) → ((c : Column) → Contains cs c → u c ≡ v c)
+    → weighted f u cs ≡ weighted f v cs
 weighted_same f u v [] same = refl
 weighted_same f u v (c ∷ cs) same =
     let here : u c ≡ v c = same c (first_member c cs) in
@@ -80,14 +83,16 @@ weighted_same f u v (c ∷ cs) same =
 abbrev is_one : Column → Column → ℤ
 is_one s c = pos (cond (is_same c s) 1 0)
 
-weighted_absent : (f : Column → ℤ) (s : Column) (cs : List Column) → (Contains cs s → ⊥) → weighted f (λ c. is_one s c) cs ≡ pos 0
+weighted_absent : (f : Column → ℤ) (s : Column) (cs : List Column) → (Contains cs s → ⊥)
+    → weighted f (λ c. is_one s c) cs ≡ pos 0
 weighted_absent f s [] absent = refl
 weighted_absent f s (c ∷ cs) absent =
     let other : is_same c s ≡ false = false_from_ne_true (is_same c s) (λ is. absent (subst (λ (d : Column). Contains (c ∷ cs) d) (same_is c s is) (first_member c cs))) in
     let later = weighted_absent f s cs (λ there. absent (further_member c cs s there)) in
     rw other (omega (arith, ints, later))
 
-weighted_one : (f : Column → ℤ) (s : Column) (cs : List Column) → AreApart cs → Contains cs s → weighted f (λ c. is_one s c) cs ≡ f s
+weighted_one : (f : Column → ℤ) (s : Column) (cs : List Column) → AreApart cs → Contains cs s
+    → weighted f (λ c. is_one s c) cs ≡ f s
 weighted_one f s [] apart there = no_member s there
 weighted_one f s (c ∷ cs) apart there = by_test (is_same c s)
     (λ is.
@@ -102,7 +107,8 @@ weighted_one f s (c ∷ cs) apart there = by_test (is_same c s)
     clash c s e other = let bad : true ≡ false = sym (subst (λ (d : Column). is_same c d ≡ true) e (is_itself c)) ∙ other in cc
 
 -- the sum over the columns of weight times uses is the sum of the weights of what is used
-pub all_uses : (f : Column → ℤ) (cs steps : List Column) → AreApart cs → ((s : Column) → Contains steps s → Contains cs s) → weighted f (λ c. pos (uses c steps)) cs ≡ weigh f steps
+pub all_uses : (f : Column → ℤ) (cs steps : List Column) → AreApart cs
+    → ((s : Column) → Contains steps s → Contains cs s) → weighted f (λ c. pos (uses c steps)) cs ≡ weigh f steps
 all_uses f cs [] apart within = weighted_none f cs
 all_uses f cs (s ∷ steps) apart within =
     let one = weighted_one f s cs apart (within s (first_member s steps)) in
@@ -128,7 +134,8 @@ ReadsFrom x e u (c ∷ cs) = (x e ≡ u c) × ReadsFrom x (e + 1) u cs
 pub vanish_is : (z : ℤ) → vanishes z ≡ true → z ≡ pos 0
 vanish_is z e = let both = and_parts (int_le z (pos 0)) (int_le (pos 0) z) e in omega (arith, ints, both.0, both.1)
 
-terms_value : (f u : Column → ℤ) (x : ℕ → ℤ) (e : ℕ) (cs : List Column) → ReadsFrom x e u cs → value_at (terms_from f e cs) x ≡ weighted f u cs
+terms_value : (f u : Column → ℤ) (x : ℕ → ℤ) (e : ℕ) (cs : List Column) → ReadsFrom x e u cs
+    → value_at (terms_from f e cs) x ≡ weighted f u cs
 terms_value f u x e [] reads = refl
 terms_value f u x e (c ∷ cs) reads = by_test (vanishes (f c))
     (λ none.
@@ -141,7 +148,9 @@ terms_value f u x e (c ∷ cs) reads = by_test (vanishes (f c))
     let here = reads.0 in
     rw some (rw here (ap (λ (z : ℤ). (f c *ℤ u c) +ℤ z) later)))
 
-reads_along : (x y : ℕ → ℤ) (e : ℕ) (steps cs : List Column) → ((k : ℕ) → x (e + k) ≡ pos (number_at (map (λ c. uses c steps) cs) k)) → ReadsFrom x e (λ c. pos (uses c steps)) cs
+reads_along : (x y : ℕ → ℤ) (e : ℕ) (steps cs : List Column)
+    → ((k : ℕ) → x (e + k) ≡ pos (number_at (map (λ c. uses c steps) cs) k))
+    → ReadsFrom x e (λ c. pos (uses c steps)) cs
 reads_along x y e steps [] same = tt
 reads_along x y e steps (c ∷ cs) same = (
   subst (λ (k : ℕ). x k ≡ pos (uses c steps)) (omega arith) (same 0),
@@ -149,7 +158,8 @@ reads_along x y e steps (c ∷ cs) same = (
 )
 
 -- a row's terms at the uses have the sum of the weights of what is used as their value
-pub row_value : (f : Column → ℤ) (cs steps : List Column) → AreApart cs → ((s : Column) → Contains steps s → Contains cs s)
+pub row_value : (f : Column → ℤ) (cs steps : List Column) → AreApart cs
+    → ((s : Column) → Contains steps s → Contains cs s)
     → value_at (terms_from f 0 cs) (column_counts cs steps) ≡ weigh f steps
 row_value f cs steps apart within =
     terms_value f (λ c. pos (uses c steps)) (column_counts cs steps) 0 cs (reads_along (column_counts cs steps) (column_counts cs steps) 0 steps cs (λ k. ap (λ (j : ℕ). column_counts cs steps j) (omega arith)))

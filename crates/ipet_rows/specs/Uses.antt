@@ -1,4 +1,5 @@
--- How often a run uses each column. A run is the list of its nodes, the newest first, and whether it ended with a fault.
+-- How often a run uses each column. A run is the list of its nodes, the newest first, and whether it ended with a
+-- fault.
 --   steps_of o fault past     the columns that it uses: an edge for each two nodes, and a last one to the end
 --   is_same c d               the columns are one
 --   uses c steps              how often the column is used

@@ -34,7 +34,8 @@ none_before (suc n) k f e below =
     ⊎_elim (λ (q : k ≡ n). rw q parts.1) (λ (d : k ≡ n → ⊥). none_before n k f parts.0 (omega arith)) (cases_eq k n)
 
 -- the parts of a verdict that holds
-sign_is : (p : Program) (y : List ℤ) (k : ℕ) → sign_at p y k ≡ None → (row_at p.rows k).equation ≡ false → pos 0 ≤ℤ entry y k
+sign_is : (p : Program) (y : List ℤ) (k : ℕ) → sign_at p y k ≡ None → (row_at p.rows k).equation ≡ false
+    → pos 0 ≤ℤ entry y k
 sign_is p y k e eq = by_test (int_le (pos 0) (entry y k))
     (λ (yes_ : int_le (pos 0) (entry y k) ≡ true). omega (arith, ints, yes_))
     (λ (no_ : int_le (pos 0) (entry y k) ≡ false). let z : sign_at p y k ≡ Some (Negative k) = rw (eq, no_) refl in absurd cc)
@@ -59,11 +60,13 @@ unless_holds : (o : Option ℕ) (t : Verdict) (v : ℕ) → unless_wide o Wide t
 unless_holds None t v e = e
 unless_holds (Some k) t v e = absurd cc
 
-some_step : {A : Type 0} (a b : Option A) (P : A → Type 0) (v : A) → ((w : A) → a ≡ Some w → P w) → ((w : A) → b ≡ Some w → P w) → or_else a b ≡ Some v → P v
+some_step : {A : Type 0} (a b : Option A) (P : A → Type 0) (v : A) → ((w : A) → a ≡ Some w → P w)
+    → ((w : A) → b ≡ Some w → P w) → or_else a b ≡ Some v → P v
 some_step None b P v pa pb e = pb v e
 some_step (Some w) b P v pa pb e = pa v e
 
-floor_step : (sum q r : ℤ) (n : ℕ) → sum ≡ (q *ℤ pos n) +ℤ r → r <ℤ pos n → sum <ℤ (pos (suc (unsigned_abs (int_max (pos 0) q))) *ℤ pos n)
+floor_step : (sum q r : ℤ) (n : ℕ) → sum ≡ (q *ℤ pos n) +ℤ r → r <ℤ pos n
+    → sum <ℤ (pos (suc (unsigned_abs (int_max (pos 0) q))) *ℤ pos n)
 floor_step sum (pos q) r n e less =
     let m : int_max (pos 0) (pos q) ≡ pos q = omega (arith, ints, clamps) in
     rw m (omega (arith, ints, e, less, sum_times (pos q) (pos 1) (pos n)))
@@ -87,7 +90,8 @@ cancel_above (pos (suc g)) (negsuc z) p e = absurd (omega (arith, ints))
 cancel_above (negsuc g) z p e = absurd (omega (arith, ints))
 
 -- from the multipliers to each point
-point_below : (scale worth_ sum w : ℤ) (v : ℕ) → pos 1 ≤ℤ scale → pos 1 ≤ℤ w → (scale *ℤ worth_) ≤ℤ (sum *ℤ w) → sum <ℤ (pos (suc v) *ℤ scale) → worth_ <ℤ (pos (suc v) *ℤ w)
+point_below : (scale worth_ sum w : ℤ) (v : ℕ) → pos 1 ≤ℤ scale → pos 1 ≤ℤ w → (scale *ℤ worth_) ≤ℤ (sum *ℤ w)
+    → sum <ℤ (pos (suc v) *ℤ scale) → worth_ <ℤ (pos (suc v) *ℤ w)
 point_below scale worth_ sum w v above whole most less =
     let up = pos (suc v) in
     let one : ((sum +ℤ pos 1) *ℤ w) ≤ℤ ((up *ℤ scale) *ℤ w) = times_rising (sum +ℤ pos 1) (up *ℤ scale) w (omega (arith, ints, less)) (omega (arith, ints, whole)) in
@@ -99,14 +103,16 @@ point_below scale worth_ sum w v above whole most less =
     omega (arith, ints, six)
 
 -- the verdict is that of the right sides
-parts_of : (a b : Option Verdict) (last : Verdict) (v : ℕ) → verdict_or (or_else a b) last ≡ Holds v → ((w : Verdict) → a ≡ Some w → w ≡ Holds v → ⊥) → ((w : Verdict) → b ≡ Some w → w ≡ Holds v → ⊥)
+parts_of : (a b : Option Verdict) (last : Verdict) (v : ℕ) → verdict_or (or_else a b) last ≡ Holds v
+    → ((w : Verdict) → a ≡ Some w → w ≡ Holds v → ⊥) → ((w : Verdict) → b ≡ Some w → w ≡ Holds v → ⊥)
     → (a ≡ None) × (b ≡ None) × (last ≡ Holds v)
 parts_of None None last v e na nb = (refl, refl, e)
 parts_of None (Some w) last v e na nb = absurd (nb w refl e)
 parts_of (Some w) b last v e na nb = absurd (na w refl e)
 
 -- an answer among the first n is the answer at some place
-some_before : {A : Type 0} (n : ℕ) (f : ℕ → Option A) (P : A → Type 0) (v : A) → ((k : ℕ) (w : A) → f k ≡ Some w → P w) → first n f ≡ Some v → P v
+some_before : {A : Type 0} (n : ℕ) (f : ℕ → Option A) (P : A → Type 0) (v : A) → ((k : ℕ) (w : A) → f k ≡ Some w → P w)
+    → first n f ≡ Some v → P v
 some_before zero f P v each_one e = absurd cc
 some_before (suc n) f P v each_one e = some_step (first n f) (f n) P v (λ w q. some_before n f P w each_one q) (each_one n) e
 
@@ -122,12 +128,14 @@ test_never rows e need sum v w q h = by_test (fits need)
     (λ (t : int_le need sum ≡ false). let z : column_test rows e need sum ≡ Some (Column e) = rw (f, t) refl in absurd cc))
     (λ (f : fits need ≡ false). let z : column_test rows e need sum ≡ Some (Wide rows) = rw f refl in absurd cc)
 
-unless_never : (o : Option ℕ) (t : Option Verdict) (v : ℕ) (w : Verdict) → unless_wide o (λ k. Some (Wide k)) t ≡ Some w → ((w : Verdict) → t ≡ Some w → w ≡ Holds v → ⊥) → w ≡ Holds v → ⊥
+unless_never : (o : Option ℕ) (t : Option Verdict) (v : ℕ) (w : Verdict) → unless_wide o (λ k. Some (Wide k)) t ≡ Some w
+    → ((w : Verdict) → t ≡ Some w → w ≡ Holds v → ⊥) → w ≡ Holds v → ⊥
 unless_never None t v w e later h = later w e h
 unless_never (Some k) t v w e later h = absurd cc
 
 -- a verdict that holds is of a dual point
-pub holds_dual : (p : Program) (scale : ℤ) (y : List ℤ) (bound v : ℕ) → pos 0 <ℤ scale → verdict p scale y bound ≡ Holds v
+pub holds_dual : (p : Program) (scale : ℤ) (y : List ℤ) (bound v : ℕ) → pos 0 <ℤ scale
+    → verdict p scale y bound ≡ Holds v
     → IsDual p scale y × (v ≡ floor_of (dual_sum p y) scale) × (v ≤ bound)
 unfolding verdict
 holds_dual p scale y bound v positive e =
@@ -149,7 +157,8 @@ holds_dual p scale y bound v positive e =
       omega (arith, b.0, b.1),
     )
 
-bounds_at : (p : Program) (scale : ℤ) (y : List ℤ) (bound : ℕ) (w : Verdict) → IsProgram p → pos 1 ≤ℤ scale → verdict p scale y bound ≡ w → OnHolds w (λ v. BoundsAll p v bound)
+bounds_at : (p : Program) (scale : ℤ) (y : List ℤ) (bound : ℕ) (w : Verdict) → IsProgram p → pos 1 ≤ℤ scale
+    → verdict p scale y bound ≡ w → OnHolds w (λ v. BoundsAll p v bound)
 bounds_at p scale y bound (Holds v) is above e =
     let d = holds_dual p scale y bound v (omega (arith, ints, above)) e in
     let points : (x : ℕ → ℤ) (w : ℤ) → pos 1 ≤ℤ w → MeetsAll p x w → worth p x <ℤ (pos (suc v) *ℤ w) =
@@ -165,22 +174,28 @@ bounds_at p scale y bound (Column k) is above e = tt
 bounds_at p scale y bound (Bound k) is above e = tt
 
 -- and bounds each point
-pub holds_bounds : (p : Program) (scale : ℤ) (y : List ℤ) (bound v : ℕ) → IsProgram p → pos 0 <ℤ scale → verdict p scale y bound ≡ Holds v → BoundsAll p v bound
+pub holds_bounds : (p : Program) (scale : ℤ) (y : List ℤ) (bound v : ℕ) → IsProgram p → pos 0 <ℤ scale
+    → verdict p scale y bound ≡ Holds v → BoundsAll p v bound
 holds_bounds p scale y bound v is above e = bounds_at p scale y bound (Holds v) is (omega (arith, ints, above)) e
 
 -- what the verdict promises
-pub verdict_bounds : (p : Program) (scale : ℤ) (y : List ℤ) (bound : ℕ) (w : Verdict) → IsProgram p → pos 0 <ℤ scale → w ≡ verdict p scale y bound → OnHolds w (λ v. BoundsAll p v bound)
+pub verdict_bounds : (p : Program) (scale : ℤ) (y : List ℤ) (bound : ℕ) (w : Verdict) → IsProgram p → pos 0 <ℤ scale
+    → w ≡ verdict p scale y bound → OnHolds w (λ v. BoundsAll p v bound)
 verdict_bounds p scale y bound w is above e = bounds_at p scale y bound w is (omega (arith, ints, above)) (sym e)
 
 -- how the parts make the verdict
-pub verdict_first : (p : Program) (scale : ℤ) (y : List ℤ) (bound : ℕ) (v : Verdict) → first (length p.rows) (sign_at p y) ≡ Some v → v ≡ verdict p scale y bound
+pub verdict_first : (p : Program) (scale : ℤ) (y : List ℤ) (bound : ℕ) (v : Verdict)
+    → first (length p.rows) (sign_at p y) ≡ Some v → v ≡ verdict p scale y bound
 unfolding verdict
 verdict_first p scale y bound v e = rw e refl
 
-pub verdict_second : (p : Program) (scale : ℤ) (y : List ℤ) (bound : ℕ) (v : Verdict) → first (length p.rows) (sign_at p y) ≡ None → first (length p.costs) (column_at p scale y) ≡ Some v → v ≡ verdict p scale y bound
+pub verdict_second : (p : Program) (scale : ℤ) (y : List ℤ) (bound : ℕ) (v : Verdict)
+    → first (length p.rows) (sign_at p y) ≡ None → first (length p.costs) (column_at p scale y) ≡ Some v
+    → v ≡ verdict p scale y bound
 unfolding verdict
 verdict_second p scale y bound v e f = rw (e, f) refl
 
-pub verdict_last : (p : Program) (scale : ℤ) (y : List ℤ) (bound : ℕ) → first (length p.rows) (sign_at p y) ≡ None → first (length p.costs) (column_at p scale y) ≡ None → right_verdict p scale y bound ≡ verdict p scale y bound
+pub verdict_last : (p : Program) (scale : ℤ) (y : List ℤ) (bound : ℕ) → first (length p.rows) (sign_at p y) ≡ None
+    → first (length p.costs) (column_at p scale y) ≡ None → right_verdict p scale y bound ≡ verdict p scale y bound
 unfolding verdict
 verdict_last p scale y bound e f = rw (e, f) refl

@@ -11,6 +11,8 @@ ghost use Rattle.ipet_rows.specs.Bounds.{BoundsAll};
 /// that meets the rows is worth more, rounded down.
 #[tactic(auto, using(crate::specs::VerdictLaws::holds_dual, crate::specs::VerdictLaws::holds_bounds))]
 pub fn verdicts_bound_each_point()
-    ensures dual { (p : Program) (scale : ℤ) (y : List ℤ) (bound v : ℕ) → pos 0 <ℤ scale → verdict p scale y bound ≡ Holds v → IsDual p scale y × (v ≡ floor_of (dual_sum p y) scale) × (v ≤ bound) }
-    ensures bounds { (p : Program) (scale : ℤ) (y : List ℤ) (bound v : ℕ) → IsProgram p → pos 0 <ℤ scale → verdict p scale y bound ≡ Holds v → BoundsAll p v bound }
+    ensures dual { (p : Program) (scale : ℤ) (y : List ℤ) (bound v : ℕ) → pos 0 <ℤ scale
+        → verdict p scale y bound ≡ Holds v → IsDual p scale y × (v ≡ floor_of (dual_sum p y) scale) × (v ≤ bound) }
+    ensures bounds { (p : Program) (scale : ℤ) (y : List ℤ) (bound v : ℕ) → IsProgram p → pos 0 <ℤ scale
+        → verdict p scale y bound ≡ Holds v → BoundsAll p v bound }
 {}

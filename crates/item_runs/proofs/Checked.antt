@@ -38,7 +38,8 @@ named_at (item ∷ items) label named = ⊎_elim
     named
 
 -- a label that an item names without a fault stands
-names_standing : (whole : WholeProgram) (k : ℕ) (func : Function) (i : ℕ) (item : BodyItem) (label : List ℕ) → ItemHasNoFault whole k func i item → Names item label → HasLabel func.items label
+names_standing : (whole : WholeProgram) (k : ℕ) (func : Function) (i : ℕ) (item : BodyItem) (label : List ℕ)
+    → ItemHasNoFault whole k func i item → Names item label → HasLabel func.items label
 names_standing whole k func i (Label own) label sound names = absurd names
 names_standing whole k func i (Do Null) label sound names = absurd names
 names_standing whole k func i (Do (Store to value)) label sound names = absurd names
@@ -55,11 +56,13 @@ some_on : (o : Option ℕ) → is_some o ≡ true → is_some (option_map (λ pl
 some_on None e = e
 some_on (Some n) e = refl
 
-choice_some : (v : Bool) (o : Option ℕ) → is_some o ≡ true → is_some (if v then Some 0 else option_map (λ place. place + 1) o) ≡ true
+choice_some : (v : Bool) (o : Option ℕ) → is_some o ≡ true
+    → is_some (if v then Some 0 else option_map (λ place. place + 1) o) ≡ true
 choice_some true o e = refl
 choice_some false o e = some_on o e
 
-choice_first : (v : Bool) (o : Option ℕ) → v ≡ true → is_some (if v then Some 0 else option_map (λ place. place + 1) o) ≡ true
+choice_first : (v : Bool) (o : Option ℕ) → v ≡ true
+    → is_some (if v then Some 0 else option_map (λ place. place + 1) o) ≡ true
 choice_first true o e = refl
 choice_first false o e = absurd (cc)
 
@@ -72,7 +75,8 @@ standing (item ∷ items) label c = first_or_further item items (Label label) c
 
 -- ---- functions
 
-functions_at : (whole : WholeProgram) (first : ℕ) (funcs : List Function) (k : ℕ) (func : Function) → slice_get funcs k ≡ Some func
+functions_at : (whole : WholeProgram) (first : ℕ) (funcs : List Function) (k : ℕ) (func : Function)
+    → slice_get funcs k ≡ Some func
     → slice_get (functions_from whole first funcs) k ≡ Some (numbered_function whole (first + frames_before funcs k) func)
 functions_at whole first [] k func e = absurd (cc)
 functions_at whole first (own ∷ funcs) zero func e =
@@ -81,7 +85,8 @@ functions_at whole first (own ∷ funcs) (suc k) func e =
     let counted : first + (length own.args + length own.decls) + frames_before funcs k ≡ first + ((length own.args + length own.decls) + frames_before funcs k) = omega arith in
     functions_at whole (first + (length own.args + length own.decls)) funcs k func e ∙ ap (λ (n : ℕ). Some (numbered_function whole n func)) counted
 
-functions_none : (whole : WholeProgram) (first : ℕ) (funcs : List Function) (k : ℕ) → slice_get funcs k ≡ None → slice_get (functions_from whole first funcs) k ≡ None
+functions_none : (whole : WholeProgram) (first : ℕ) (funcs : List Function) (k : ℕ) → slice_get funcs k ≡ None
+    → slice_get (functions_from whole first funcs) k ≡ None
 functions_none whole first [] k e = refl
 functions_none whole first (own ∷ funcs) zero e = absurd (cc)
 functions_none whole first (own ∷ funcs) (suc k) e = functions_none whole (first + (length own.args + length own.decls)) funcs k e
@@ -90,7 +95,8 @@ abbrev blocks_in : Option NumberedFunction → List NumberedBlock
 blocks_in o = option_map_or (λ (function : NumberedFunction). function.blocks) o []
 
 -- the blocks of function f do what its items do
-cut_at : BlocksAreCut → (frames : List FrameShape) (whole : WholeProgram) (root : List ℕ) (f : ℕ) → IsCut frames (numbers_of whole f) (items_of whole f) (blocks_at (numbered whole root) f)
+cut_at : BlocksAreCut → (frames : List FrameShape) (whole : WholeProgram) (root : List ℕ) (f : ℕ)
+    → IsCut frames (numbers_of whole f) (items_of whole f) (blocks_at (numbered whole root) f)
 cut_at cuts frames whole root f = go (slice_get whole.funcs f) refl where
   go : (o : Option Function) → slice_get whole.funcs f ≡ o
       → IsCut frames (option_map_or (numbers_in whole (first_frame whole f)) o no_numbers) (option_map_or (λ (func : Function). func.items) o []) (blocks_at (numbered whole root) f)
@@ -100,16 +106,20 @@ cut_at cuts frames whole root f = go (slice_get whole.funcs f) refl where
       (cuts frames (numbers_in whole (first_frame whole f) func) func.items refl)
 
 -- each label that is named in function f stands
-stand_at : (whole : WholeProgram) → HasNoFault whole → (f : ℕ) (label : List ℕ) → IsNamed (items_of whole f) label → has_label label (items_of whole f) ≡ true
+stand_at : (whole : WholeProgram) → HasNoFault whole → (f : ℕ) (label : List ℕ) → IsNamed (items_of whole f) label
+    → has_label label (items_of whole f) ≡ true
 stand_at whole sound f label named = go (slice_get whole.funcs f) refl named where
-  go : (o : Option Function) → slice_get whole.funcs f ≡ o → IsNamed (option_map_or (λ (func : Function). func.items) o []) label → has_label label (option_map_or (λ (func : Function). func.items) o []) ≡ true
+  go : (o : Option Function) → slice_get whole.funcs f ≡ o
+      → IsNamed (option_map_or (λ (func : Function). func.items) o []) label
+      → has_label label (option_map_or (λ (func : Function). func.items) o []) ≡ true
   go None e named = absurd named
   go (Some func) e named =
       let found = named_at func.items label named in
       standing func.items label (names_standing whole f func found.place found.item label ((sound.funcs f func e).items found.place found.item found.at) found.names)
 
 -- the blocks of a checked program do what its items do, and each label that is named stands
-pub each_is_cut : BlocksAreCut → IsByParts → (program : NumberedProgram) (kept : IsKept program) → AreCut (with_items program kept.checked.whole)
+pub each_is_cut : BlocksAreCut → IsByParts → (program : NumberedProgram) (kept : IsKept program)
+    → AreCut (with_items program kept.checked.whole)
 each_is_cut cuts parts program kept =
     let checked = kept.checked in
     let sound = (parts checked.whole).0 checked.passes.sound in

@@ -44,7 +44,8 @@ joined_begins : (i : BodyItem) (blocks : List (List BodyItem)) → Begins i (joi
 joined_begins i [] = refl
 joined_begins i (block ∷ blocks) = refl
 
-choice_begins : (i : BodyItem) (v : Bool) (blocks : List (List BodyItem)) → Begins i (if v then (i ∷ []) ∷ blocks else joined i blocks)
+choice_begins : (i : BodyItem) (v : Bool) (blocks : List (List BodyItem))
+    → Begins i (if v then (i ∷ []) ∷ blocks else joined i blocks)
 choice_begins i true blocks = refl
 choice_begins i false blocks = joined_begins i blocks
 
@@ -52,12 +53,14 @@ begins : (i : BodyItem) (items : List BodyItem) → Begins i (blocks_of (i ∷ i
 begins i [] = refl
 begins i (j ∷ items) = choice_begins i (begins_between i j) (blocks_of (j ∷ items))
 
-joined_trim : (i j : BodyItem) (blocks : List (List BodyItem)) → begins_between i j ≡ false → Begins j blocks → AllTrim blocks → AllTrim (joined i blocks)
+joined_trim : (i j : BodyItem) (blocks : List (List BodyItem)) → begins_between i j ≡ false → Begins j blocks
+    → AllTrim blocks → AllTrim (joined i blocks)
 joined_trim i j [] e b t = absurd b
 joined_trim i j ([] ∷ blocks) e b t = absurd b
 joined_trim i j ((k ∷ block) ∷ blocks) e b t = ((subst (λ (q : BodyItem). begins_between i q ≡ false) (sym b) e, t.0), t.1)
 
-choice_trim : (i j : BodyItem) (v : Bool) (blocks : List (List BodyItem)) → begins_between i j ≡ v → Begins j blocks → AllTrim blocks → AllTrim (if v then (i ∷ []) ∷ blocks else joined i blocks)
+choice_trim : (i j : BodyItem) (v : Bool) (blocks : List (List BodyItem)) → begins_between i j ≡ v → Begins j blocks
+    → AllTrim blocks → AllTrim (if v then (i ∷ []) ∷ blocks else joined i blocks)
 choice_trim i j true blocks e b t = (tt, t)
 choice_trim i j false blocks e b t = joined_trim i j blocks e b t
 
@@ -67,7 +70,8 @@ all_trim [] = tt
 all_trim (i ∷ []) = (tt, tt)
 all_trim (i ∷ j ∷ items) = choice_trim i j (begins_between i j) (blocks_of (j ∷ items)) refl (begins j items) (all_trim (j ∷ items))
 
-choice_from : (i : BodyItem) (v : Bool) (blocks : List (List BodyItem)) → from_of (if v then (i ∷ []) ∷ blocks else joined i blocks) 0 ≡ i ∷ from_of blocks 0
+choice_from : (i : BodyItem) (v : Bool) (blocks : List (List BodyItem))
+    → from_of (if v then (i ∷ []) ∷ blocks else joined i blocks) 0 ≡ i ∷ from_of blocks 0
 choice_from i true blocks = refl
 choice_from i false [] = refl
 choice_from i false (block ∷ blocks) = refl
@@ -89,7 +93,8 @@ some_on : (o : Option ℕ) → is_some (option_map (λ place. place + 1) o) ≡ 
 some_on None = refl
 some_on (Some n) = refl
 
-choice_some : (v : Bool) (o : Option ℕ) → is_some (if v then Some 0 else option_map (λ place. place + 1) o) ≡ (if v then true else is_some o)
+choice_some : (v : Bool) (o : Option ℕ)
+    → is_some (if v then Some 0 else option_map (λ place. place + 1) o) ≡ (if v then true else is_some o)
 choice_some true o = refl
 choice_some false o = some_on o
 
@@ -103,7 +108,8 @@ or_true true b e = refl
 or_true false b e = e
 
 -- no label stands after a statement of a block
-no_label : (label : List ℕ) (i : BodyItem) (items : List BodyItem) → is_label i ≡ false → Trim (i ∷ items) → holds label items ≡ false
+no_label : (label : List ℕ) (i : BodyItem) (items : List BodyItem) → is_label i ≡ false → Trim (i ∷ items)
+    → holds label items ≡ false
 no_label label i [] e t = refl
 no_label label i (Label n ∷ items) e t = absurd (false≢true (sym t.0 ∙ or_true (ends_block i) (not (is_label i)) (ap not e)))
 no_label label i (Do act ∷ items) e t = no_label label (Do act) items refl t.1
@@ -112,18 +118,22 @@ trim_tail : (i : BodyItem) (items : List BodyItem) → Trim (i ∷ items) → Tr
 trim_tail i [] t = tt
 trim_tail i (j ∷ items) t = t.1
 
-after_other : (label : List ℕ) (block rest : List BodyItem) → holds label block ≡ false → items_after label (block ++ rest) ≡ items_after label rest
+after_other : (label : List ℕ) (block rest : List BodyItem) → holds label block ≡ false
+    → items_after label (block ++ rest) ≡ items_after label rest
 after_other label [] rest e = refl
 after_other label (item ∷ block) rest e = on (is_label_named label item) (λ h. after_other label block rest h) e where
-  on : (v : Bool) → (holds label block ≡ false → items_after label (block ++ rest) ≡ items_after label rest) → (if v then true else holds label block) ≡ false
+  on : (v : Bool) → (holds label block ≡ false → items_after label (block ++ rest) ≡ items_after label rest)
+      → (if v then true else holds label block) ≡ false
       → (if v then block ++ rest else items_after label (block ++ rest)) ≡ items_after label rest
   on true go e = absurd (false≢true (sym e))
   on false go e = go e
 
-holds_joined : (label : List ℕ) (block rest : List BodyItem) → holds label block ≡ false → holds label (block ++ rest) ≡ holds label rest
+holds_joined : (label : List ℕ) (block rest : List BodyItem) → holds label block ≡ false
+    → holds label (block ++ rest) ≡ holds label rest
 holds_joined label [] rest e = refl
 holds_joined label (item ∷ block) rest e = on (is_label_named label item) (λ h. holds_joined label block rest h) e where
-  on : (v : Bool) → (holds label block ≡ false → holds label (block ++ rest) ≡ holds label rest) → (if v then true else holds label block) ≡ false
+  on : (v : Bool) → (holds label block ≡ false → holds label (block ++ rest) ≡ holds label rest)
+      → (if v then true else holds label block) ≡ false
       → (if v then true else holds label (block ++ rest)) ≡ holds label rest
   on true go e = absurd (false≢true (sym e))
   on false go e = go e
@@ -137,10 +147,12 @@ record StandsIn (label : List ℕ) (blocks : List (List BodyItem)) : Type 0 wher
 abbrev place_by : Option ℕ → Bool → Option ℕ
 place_by further v = if v then Some 0 else option_map (λ place. place + 1) further
 
-stands_in : (label : List ℕ) (blocks : List (List BodyItem)) → holds label (from_of blocks 0) ≡ true → StandsIn label blocks
+stands_in : (label : List ℕ) (blocks : List (List BodyItem)) → holds label (from_of blocks 0) ≡ true
+    → StandsIn label blocks
 stands_in label [] e = absurd (false≢true e)
 stands_in label (block ∷ blocks) e = on (has_label label block) refl (λ h. stands_in label blocks h) where
-  on : (v : Bool) → has_label label block ≡ v → (holds label (from_of blocks 0) ≡ true → StandsIn label blocks) → StandsIn label (block ∷ blocks)
+  on : (v : Bool) → has_label label block ≡ v → (holds label (from_of blocks 0) ≡ true → StandsIn label blocks)
+      → StandsIn label (block ∷ blocks)
   on true h go = record { number = 0; at = ap (place_by (place_of (has_label label) blocks)) h }
   on false h go =
       let further = go (sym (holds_joined label block (from_of blocks 0) (sym (holds_is label block) ∙ h)) ∙ e) in
@@ -153,20 +165,26 @@ further_on (Some m) n e = (m, refl, let same : m + 1 ≡ n = cc in sym same ∙ 
 
 module _ (frames : List FrameShape) (numbers : Numbers) where
   -- a label that a block holds leads to the block's start
-  after_held : (label : List ℕ) (block rest : List BodyItem) → Trim block → holds label block ≡ true → IsSame frames numbers (items_after label (block ++ rest)) (block ++ rest)
+  after_held : (label : List ℕ) (block rest : List BodyItem) → Trim block → holds label block ≡ true
+      → IsSame frames numbers (items_after label (block ++ rest)) (block ++ rest)
   after_held label [] rest t e = absurd (false≢true e)
   after_held label (Label n ∷ block) rest t e = on (is_label_named label (Label n)) (λ h. after_held label block rest (trim_tail (Label n) block t) h) e where
-    on : (v : Bool) → (holds label block ≡ true → IsSame frames numbers (items_after label (block ++ rest)) (block ++ rest)) → (if v then true else holds label block) ≡ true
+    on : (v : Bool)
+        → (holds label block ≡ true → IsSame frames numbers (items_after label (block ++ rest)) (block ++ rest))
+        → (if v then true else holds label block) ≡ true
         → IsSame frames numbers (if v then block ++ rest else items_after label (block ++ rest)) (block ++ rest)
     on true go e = λ history. refl
     on false go e = go e
   after_held label (Do act ∷ block) rest t e = absurd (false≢true (sym (no_label label (Do act) block refl t) ∙ e))
 
   -- each label leads to the start of its block
-  labels_lead : (label : List ℕ) (blocks : List (List BodyItem)) (n : ℕ) → AllTrim blocks → place_of (has_label label) blocks ≡ Some n → IsSame frames numbers (items_after label (from_of blocks 0)) (from_of blocks n)
+  labels_lead : (label : List ℕ) (blocks : List (List BodyItem)) (n : ℕ) → AllTrim blocks
+      → place_of (has_label label) blocks ≡ Some n
+      → IsSame frames numbers (items_after label (from_of blocks 0)) (from_of blocks n)
   labels_lead label [] n t at = absurd (cc)
   labels_lead label (block ∷ blocks) n t at = on (has_label label block) refl at (λ m h. labels_lead label blocks m t.1 h) where
-    on : (v : Bool) → has_label label block ≡ v → (if v then Some 0 else option_map (λ place. place + 1) (place_of (has_label label) blocks)) ≡ Some n
+    on : (v : Bool) → has_label label block ≡ v
+        → (if v then Some 0 else option_map (λ place. place + 1) (place_of (has_label label) blocks)) ≡ Some n
         → ((m : ℕ) → place_of (has_label label) blocks ≡ Some m → IsSame frames numbers (items_after label (from_of blocks 0)) (from_of blocks m))
         → IsSame frames numbers (items_after label (block ++ from_of blocks 0)) (from_of (block ∷ blocks) n)
     on true h at go =
@@ -180,7 +198,8 @@ module _ (frames : List FrameShape) (numbers : Numbers) where
         (subst (λ (items : List BodyItem). IsSame frames numbers items (from_of blocks found.0)) (sym e) (go found.0 found.1))
 
   -- a label that stands leads to the block of its number
-  pub label_leads : (items : List BodyItem) (label : List ℕ) → has_label label items ≡ true → IsSame frames numbers (items_after label items) (from_of (blocks_of items) (block_number items label))
+  pub label_leads : (items : List BodyItem) (label : List ℕ) → has_label label items ≡ true
+      → IsSame frames numbers (items_after label items) (from_of (blocks_of items) (block_number items label))
   label_leads items label stands =
       let blocks = blocks_of items in
       let found = stands_in label blocks (ap (holds label) (from_blocks items) ∙ sym (holds_is label items) ∙ stands) in

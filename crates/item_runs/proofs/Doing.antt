@@ -26,7 +26,8 @@ use Rattle.item_runs.proofs.Cutting.{from_of, Trim, AllTrim, all_trim, from_bloc
 use Rattle.item_runs.proofs.Naming.{named_among}
 
 -- the last of more items
-last_of_more : (i j : BodyItem) (items : List BodyItem) → slice_get (i ∷ j ∷ items) (length (i ∷ j ∷ items) - 1) ≡ slice_get (j ∷ items) (length (j ∷ items) - 1)
+last_of_more : (i j : BodyItem) (items : List BodyItem)
+    → slice_get (i ∷ j ∷ items) (length (i ∷ j ∷ items) - 1) ≡ slice_get (j ∷ items) (length (j ∷ items) - 1)
 last_of_more i j items = let e : length (i ∷ j ∷ items) - 1 ≡ suc (length (j ∷ items) - 1) = omega arith in ap (slice_get (i ∷ j ∷ items)) e
 
 or_left : (a b : Bool) → (a || b) ≡ false → a ≡ false
@@ -34,10 +35,12 @@ or_left true b e = e
 or_left false b e = refl
 
 -- the block of a switch's label
-target_numbered : (number : List ℕ → ℕ) (targets : List (Num × List ℕ)) (others : List ℕ) (word : ℕ) → target_of (numbered_targets number targets) (number others) word ≡ number (label_for targets others word)
+target_numbered : (number : List ℕ → ℕ) (targets : List (Num × List ℕ)) (others : List ℕ) (word : ℕ)
+    → target_of (numbered_targets number targets) (number others) word ≡ number (label_for targets others word)
 target_numbered number [] others word = refl
 target_numbered number (t ∷ targets) others word = on (t.0.bits == word) (target_numbered number targets others word) where
-  on : (v : Bool) → target_of (numbered_targets number targets) (number others) word ≡ number (label_for targets others word)
+  on : (v : Bool)
+      → target_of (numbered_targets number targets) (number others) word ≡ number (label_for targets others word)
       → (if v then number t.1 else target_of (numbered_targets number targets) (number others) word) ≡ number (if v then t.1 else label_for targets others word)
   on true e = refl
   on false e = e
@@ -45,7 +48,8 @@ target_numbered number (t ∷ targets) others word = on (t.0.bits == word) (targ
 module _ (frames : List FrameShape) (numbers : Numbers) (all : List BodyItem) (from : ℕ → List BodyItem)
     (lead : (label : List ℕ) → has_label label all ≡ true → IsSame frames numbers (items_after label all) (from (numbers.block label))) where
   -- the last item of a block
-  last_does : (b : ℕ) (item : BodyItem) (rest : List BodyItem) (history : List RunEvent) → IsSame frames numbers rest (from (suc b))
+  last_does : (b : ℕ) (item : BodyItem) (rest : List BodyItem) (history : List RunEvent)
+      → IsSame frames numbers rest (from (suc b))
       → ThenDoes frames numbers all from b (end_by numbers (suc b) item) (stretch frames numbers (item ∷ rest) history) (after_statements frames (statements_by numbers.frame item) (Ok history))
   last_does b (Label label) rest history same = (refl, same history)
   last_does b (Do Null) rest history same = (refl, same history)
@@ -91,7 +95,8 @@ module _ (frames : List FrameShape) (numbers : Numbers) (all : List BodyItem) (f
   goes_through b (Do (Return value)) statements ending tail history e next = absurd (false≢true (sym e))
 
   -- a block does what its items do
-  block_does : (b : ℕ) (block rest : List BodyItem) (history : List RunEvent) → Trim block → IsSame frames numbers rest (from (suc b))
+  block_does : (b : ℕ) (block rest : List BodyItem) (history : List RunEvent) → Trim block
+      → IsSame frames numbers rest (from (suc b))
       → ThenDoes frames numbers all from b (numbered_end numbers (suc b) block) (stretch frames numbers (block ++ rest) history) (after_statements frames (flat_map (statements_by numbers.frame) block) (Ok history))
   block_does b [] rest history t same = (refl, same history)
   block_does b (item ∷ []) rest history t same =
@@ -104,7 +109,8 @@ module _ (frames : List FrameShape) (numbers : Numbers) (all : List BodyItem) (f
       (λ later. block_does b (j ∷ block) rest later t.1 same))
 
   -- the blocks from number base on do what their items do
-  blocks_do : (blocks : List (List BodyItem)) (base : ℕ) → AllTrim blocks → ((j : ℕ) → from (base + j) ≡ from_of blocks j) → (b : ℕ) (history : List RunEvent)
+  blocks_do : (blocks : List (List BodyItem)) (base : ℕ) → AllTrim blocks
+      → ((j : ℕ) → from (base + j) ≡ from_of blocks j) → (b : ℕ) (history : List RunEvent)
       → BlockDoes frames numbers all from (base + b) (slice_get (numbered_blocks numbers base blocks) b) history
   blocks_do [] base t is b history = ap (λ (items : List BodyItem). stretch frames numbers items history) (is b)
   blocks_do (block ∷ blocks) base t is zero history =
@@ -122,7 +128,8 @@ module _ (frames : List FrameShape) (numbers : Numbers) (all : List BodyItem) (f
       subst (λ (n : ℕ). BlockDoes frames numbers all from n (slice_get (numbered_blocks numbers (suc base) blocks) b) history) at r
 
 -- the blocks of items do what these do
-pub is_cut : (frames : List FrameShape) (numbers : Numbers) (items : List BodyItem) → numbers.block ≡ block_number items → IsCut frames numbers items (numbered_blocks numbers 0 (blocks_of items))
+pub is_cut : (frames : List FrameShape) (numbers : Numbers) (items : List BodyItem) → numbers.block ≡ block_number items
+    → IsCut frames numbers items (numbered_blocks numbers 0 (blocks_of items))
 is_cut frames numbers items number =
     let blocks = blocks_of items in
     let lead = λ (label : List ℕ) (stands : has_label label items ≡ true).

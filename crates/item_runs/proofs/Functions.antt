@@ -11,12 +11,14 @@ use Rattle.item_runs.specs.Cuts.{IsCut, FunctionIsCut}
 use Rattle.item_runs.proofs.Doing.{is_cut}
 
 -- the function of this number
-record IsNumberedAt (whole : WholeProgram) (first : ℕ) (funcs : List Function) (k : ℕ) (function : NumberedFunction) : Type 0 where
+record IsNumberedAt (whole : WholeProgram) (first : ℕ) (funcs : List Function) (k : ℕ)
+    (function : NumberedFunction) : Type 0 where
   func : Function
   at : slice_get funcs k ≡ Some func
   is : function ≡ numbered_function whole (first + frames_before funcs k) func
 
-numbered_at : (whole : WholeProgram) (first : ℕ) (funcs : List Function) (k : ℕ) (function : NumberedFunction) → slice_get (functions_from whole first funcs) k ≡ Some function → IsNumberedAt whole first funcs k function
+numbered_at : (whole : WholeProgram) (first : ℕ) (funcs : List Function) (k : ℕ) (function : NumberedFunction)
+    → slice_get (functions_from whole first funcs) k ≡ Some function → IsNumberedAt whole first funcs k function
 numbered_at whole first [] k function e = absurd (cc)
 numbered_at whole first (func ∷ funcs) zero function e = record {
   func = func;

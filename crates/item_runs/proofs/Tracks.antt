@@ -81,7 +81,8 @@ module _ (of : ItemProgram) (are : AreCut of) where
   result_alike path f stack rest own (Some to) next None history t same = refl
   result_alike path f stack rest own None next (Some value) history t same = refl
 
-  leave_alike : (path : List ℕ) (f : ℕ) (stack : List Waiting) (value : Option Value) (history : List RunEvent) → Tied path f stack
+  leave_alike : (path : List ℕ) (f : ℕ) (stack : List Waiting) (value : Option Value) (history : List RunEvent)
+      → Tied path f stack
       → Alike (leave program path value history) (back of stack value (events.Leave f ∷ history))
   leave_alike path f stack value history tied_root = refl
   leave_alike path f stack value history (tied_call path' f' stack' b g next args result rest t e same) =
@@ -104,18 +105,22 @@ module _ (of : ItemProgram) (are : AreCut of) where
   Goes_on path f stack b moment end = FallsOn path f b moment end ⊎ Alike moment (after_end of f stack end)
 
   -- where the end is known
-  known : (moment : Moment) (f : ℕ) (stack : List Waiting) (end other : End) → end ≡ other → Alike moment (after_end of f stack other) → Alike moment (after_end of f stack end)
+  known : (moment : Moment) (f : ℕ) (stack : List Waiting) (end other : End) → end ≡ other
+      → Alike moment (after_end of f stack other) → Alike moment (after_end of f stack end)
   known moment f stack end other e alike = subst (λ (x : End). Alike moment (after_end of f stack x)) (sym e) alike
 
   module _ (path : List ℕ) (f : ℕ) (stack : List Waiting) (tied : Tied path f stack) (b : ℕ) (end : End)
       (named : (label : List ℕ) (history : List RunEvent) → end ≡ Goes label history → IsNamed (of.items f) label) where
-    leads_alike : (to : ℕ) (history : List RunEvent) → Leads (frames_of program) (of.numbers f) (of.items f) (from f to) history end → Alike (At (block_node path to) history) (after_end of f stack end)
+    leads_alike : (to : ℕ) (history : List RunEvent)
+        → Leads (frames_of program) (of.numbers f) (of.items f) (from f to) history end
+        → Alike (At (block_node path to) history) (after_end of f stack end)
     leads_alike to history leads =
         let same = leads.same (are.stand f leads.label (named leads.label history leads.goes)) in
         known (At (block_node path to) history) f stack end (Goes leads.label history) leads.goes
         (record { f = f; stack = stack; tied = tied; is = ap (Run f stack) (same history) })
 
-    switch_alike : (targets : List (ℕ × ℕ)) (others : ℕ) (history : List RunEvent) (r : Result Value RunFault) → SwitchDoes (frames_of program) (of.numbers f) (of.items f) (from f) targets others history end r
+    switch_alike : (targets : List (ℕ × ℕ)) (others : ℕ) (history : List RunEvent) (r : Result Value RunFault)
+        → SwitchDoes (frames_of program) (of.numbers f) (of.items f) (from f) targets others history end r
         → Alike (switch_step path targets others history r) (after_end of f stack end)
     switch_alike targets others history (Ok (Int size word)) does = leads_alike (target_of targets others word) history does
     switch_alike targets others history (Ok (Ptr frame offset)) does = known (Over (Faulted Kind)) f stack end (Stops Kind) does refl
@@ -128,11 +133,14 @@ module _ (of : ItemProgram) (are : AreCut of) where
         (record { f = g; stack = record { function = f; rest = does.rest; result = result } ∷ stack; tied = tied_call path f stack b g next args result does.rest tied ends does.same; is = refl })
     call_alike g args result next history (Err fault) ends does = known (Over (Faulted fault)) f stack end (Stops fault) does refl
 
-    return_alike : (history : List RunEvent) (r : Result Value RunFault) → ReturnDoes (frames_of program) (of.numbers f) history end r → Alike (return_step program path history r) (after_end of f stack end)
+    return_alike : (history : List RunEvent) (r : Result Value RunFault)
+        → ReturnDoes (frames_of program) (of.numbers f) history end r
+        → Alike (return_step program path history r) (after_end of f stack end)
     return_alike history (Ok value) does = known (leave program path (Some value) history) f stack end (Leaves (Some value) history) does (leave_alike path f stack (Some value) history tied)
     return_alike history (Err fault) does = known (Over (Faulted fault)) f stack end (Stops fault) does refl
 
-    end_goes : (ending : BlockEnding) (history : List RunEvent) → ending_at program f b ≡ Some ending → EndDoes (frames_of program) (of.numbers f) (of.items f) (from f) b ending history end
+    end_goes : (ending : BlockEnding) (history : List RunEvent) → ending_at program f b ≡ Some ending
+        → EndDoes (frames_of program) (of.numbers f) (of.items f) (from f) b ending history end
         → Goes_on path f stack b (ending_step program path b ending history) end
     end_goes (Fall next) history ends does =
         inl (record { history = history; at = ap (λ (n : ℕ). At (block_node path n) history) does.0; is = does.1 ∙ ap (λ (n : ℕ). ahead of f (from f n) history) does.0 })
@@ -142,7 +150,8 @@ module _ (of : ItemProgram) (are : AreCut of) where
     end_goes (Return None) history ends does = inr (known (leave program path None history) f stack end (Leaves None history) does (leave_alike path f stack None history tied))
     end_goes (Return (Some value)) history ends does = inr (return_alike history (value_of (frames_of program) history value) does)
 
-    then_goes : (ending : BlockEnding) (r : Result (List RunEvent) RunFault) → ending_at program f b ≡ Some ending → ThenDoes (frames_of program) (of.numbers f) (of.items f) (from f) b ending end r
+    then_goes : (ending : BlockEnding) (r : Result (List RunEvent) RunFault) → ending_at program f b ≡ Some ending
+        → ThenDoes (frames_of program) (of.numbers f) (of.items f) (from f) b ending end r
         → Goes_on path f stack b (then_ending program path b ending r) end
     then_goes ending (Ok history) ends does = end_goes ending history ends does
     then_goes ending (Err fault) ends does = inr (known (Over (Faulted fault)) f stack end (Stops fault) does refl)
@@ -152,7 +161,8 @@ module _ (of : ItemProgram) (are : AreCut of) where
     block_goes : (path : List ℕ) (f : ℕ) (stack : List Waiting) → Tied path f stack → (b : ℕ) (history : List RunEvent)
         → Goes_on path f stack b (block_step program path b (slice_get (blocks_at program f) b) history) (ahead of f (from f b) history)
     block_goes path f stack tied b history = go (slice_get (blocks_at program f) b) refl ((are.cut f).does b history) where
-      go : (o : Option NumberedBlock) → slice_get (blocks_at program f) b ≡ o → BlockDoes (frames_of program) (of.numbers f) (of.items f) (from f) b o history
+      go : (o : Option NumberedBlock) → slice_get (blocks_at program f) b ≡ o
+          → BlockDoes (frames_of program) (of.numbers f) (of.items f) (from f) b o history
           → Goes_on path f stack b (block_step program path b o history) (ahead of f (from f b) history)
       go None e does = inr (known (Over Lost) f stack (ahead of f (from f b) history) (Falls history) does refl)
       go (Some block) e does =
@@ -168,13 +178,15 @@ module _ (of : ItemProgram) (are : AreCut of) where
         (block_goes path f stack tied b history)
 
     -- a step from an entry stands where it did
-    enters_alike : (path : List ℕ) (f : ℕ) (stack : List Waiting) → Tied path f stack → (history : List RunEvent) → Alike (At (block_node path 0) history) (Run f stack (ahead of f (of.items f) history))
+    enters_alike : (path : List ℕ) (f : ℕ) (stack : List Waiting) → Tied path f stack → (history : List RunEvent)
+        → Alike (At (block_node path 0) history) (Run f stack (ahead of f (of.items f) history))
     enters_alike path f stack tied history =
         record { f = f; stack = stack; tied = tied; is = ap (λ (items : List BodyItem). Run f stack (ahead of f items history)) (sym ((are.cut f).first)) }
 
     -- ---- as many steps
 
-    one_step : (moment : Moment) (standing : Standing) → Alike moment standing → Alike (step program moment) standing ⊎ Alike (step program moment) (tick of standing)
+    one_step : (moment : Moment) (standing : Standing) → Alike moment standing
+        → Alike (step program moment) standing ⊎ Alike (step program moment) (tick of standing)
     one_step (Over outcome) standing alike = inl alike
     one_step (At node history) standing alike = by_block node.block alike where
       by_block : (block : Option ℕ) → Stand node.path block history standing
@@ -209,7 +221,8 @@ module _ (of : ItemProgram) (are : AreCut of) where
       alike : Alike (after program count moment) standing
 
     -- a block goes where its stretch leads, or where the next block does
-    goes_through : (path : List ℕ) (f : ℕ) (stack : List Waiting) (b : ℕ) (history : List RunEvent) → Goes_on path f stack b (step program (At (block_node path b) history)) (ahead of f (from f b) history)
+    goes_through : (path : List ℕ) (f : ℕ) (stack : List Waiting) (b : ℕ) (history : List RunEvent)
+        → Goes_on path f stack b (step program (At (block_node path b) history)) (ahead of f (from f b) history)
         → ((falls : FallsOn path f b (step program (At (block_node path b) history)) (ahead of f (from f b) history)) → Reaches 1 (At (block_node path (suc b)) falls.history) (after_end of f stack (ahead of f (from f (suc b)) falls.history)))
         → Reaches 1 (At (block_node path b) history) (after_end of f stack (ahead of f (from f b) history))
     goes_through path f stack b history (inr leads) further = record { count = 1; many = omega arith; alike = leads }
@@ -224,13 +237,15 @@ module _ (of : ItemProgram) (are : AreCut of) where
         }
 
     -- where there is no block the run is lost
-    lost : (path : List ℕ) (f : ℕ) (stack : List Waiting) → Tied path f stack → (b : ℕ) (history : List RunEvent) → length (blocks_at program f) ≤ b → step program (At (block_node path b) history) ≡ Over Lost
+    lost : (path : List ℕ) (f : ℕ) (stack : List Waiting) → Tied path f stack → (b : ℕ) (history : List RunEvent)
+        → length (blocks_at program f) ≤ b → step program (At (block_node path b) history) ≡ Over Lost
     lost path f stack tied b history past =
         ap (λ (k : ℕ). block_step program path b (slice_get (blocks_at program k) b) history) (tied_function path f stack tied)
         ∙ ap (λ (o : Option NumberedBlock). block_step program path b o history) (slice_get_past (blocks_at program f) b past)
 
     -- from a block on, the blocks that fall on are no more than there are
-    falls_through : (n : ℕ) (path : List ℕ) (f : ℕ) (stack : List Waiting) → Tied path f stack → (b : ℕ) (history : List RunEvent) → length (blocks_at program f) ≤ b + n
+    falls_through : (n : ℕ) (path : List ℕ) (f : ℕ) (stack : List Waiting) → Tied path f stack
+        → (b : ℕ) (history : List RunEvent) → length (blocks_at program f) ≤ b + n
         → Reaches 1 (At (block_node path b) history) (after_end of f stack (ahead of f (from f b) history))
     falls_through zero path f stack tied b history low =
         goes_through path f stack b history (step_at path f stack tied b history) (λ falls. absurd (let gone = lost path f stack tied b history (omega arith) in let at = falls.at in cc))
@@ -240,7 +255,8 @@ module _ (of : ItemProgram) (are : AreCut of) where
     to_tick : (moment : Moment) (standing : Standing) → Alike moment standing → Reaches 1 moment (tick of standing)
     to_tick (Over outcome) standing alike = record { count = 1; many = omega arith; alike = ap (tick of) alike }
     to_tick (At node history) standing alike = by_block node.block alike where
-      by_block : (block : Option ℕ) → Stand node.path block history standing → Reaches 1 (At (record { path = node.path; block = block }) history) (tick of standing)
+      by_block : (block : Option ℕ) → Stand node.path block history standing
+          → Reaches 1 (At (record { path = node.path; block = block }) history) (tick of standing)
       by_block (Some b) stand =
           subst (λ (s : Standing). Reaches 1 (At (block_node node.path b) history) (tick of s)) (sym stand.is)
           (falls_through (length (blocks_at program stand.f)) node.path stand.f stand.stack stand.tied b history (omega arith))
@@ -254,7 +270,8 @@ module _ (of : ItemProgram) (are : AreCut of) where
             alike = subst (λ (items : List BodyItem). Alike (after program rest.count (At (block_node node.path 0) history)) (after_end of stand.f stand.stack (ahead of stand.f items history))) ((are.cut stand.f).first) rest.alike;
           })
 
-    reaches : (t : ℕ) (moment : Moment) (standing : Standing) → Alike moment standing → Reaches t moment (ticks of t standing)
+    reaches : (t : ℕ) (moment : Moment) (standing : Standing) → Alike moment standing
+        → Reaches t moment (ticks of t standing)
     reaches zero moment standing alike = record { count = 0; many = omega arith; alike = alike }
     reaches (suc t) moment standing alike =
         let one = to_tick moment standing alike in
@@ -272,7 +289,8 @@ module _ (of : ItemProgram) (are : AreCut of) where
     started : (history : List RunEvent) → Alike (At first_node history) (at_start of history)
     started history = record { f = program.root; stack = []; tied = tied_root; is = refl }
 
-    over_with : (moment : Moment) (standing : Standing) (outcome : Outcome) → Alike moment standing → standing ≡ Done outcome → moment ≡ Over outcome
+    over_with : (moment : Moment) (standing : Standing) (outcome : Outcome) → Alike moment standing
+        → standing ≡ Done outcome → moment ≡ Over outcome
     over_with (At node history) standing outcome stand done = absurd (let is = stand.is in cc)
     over_with (Over own) standing outcome is done = cc
 

@@ -37,7 +37,8 @@ module _ (frames : List FrameShape) (numbers : Numbers) where
     pub same : has_label label all ≡ true → IsSame (items_after label all) to
 
   -- a switch goes to the block of its word
-  abbrev pub SwitchDoes : List BodyItem → (ℕ → List BodyItem) → List (ℕ × ℕ) → ℕ → List RunEvent → End → Result Value RunFault → Type 0
+  abbrev pub SwitchDoes : List BodyItem → (ℕ → List BodyItem) → List (ℕ × ℕ) → ℕ → List RunEvent → End
+      → Result Value RunFault → Type 0
   SwitchDoes all from targets others history end (Ok (Int size word)) = Leads all (from (target_of targets others word)) history end
   SwitchDoes all from targets others history end (Ok (Ptr frame offset)) = end ≡ Stops Kind
   SwitchDoes all from targets others history end (Err fault) = end ≡ Stops fault
@@ -66,7 +67,8 @@ module _ (frames : List FrameShape) (numbers : Numbers) where
   EndDoes all from b (Return (Some value)) history end = ReturnDoes history end (value_of frames history value)
 
   -- and from its statements on
-  abbrev pub ThenDoes : List BodyItem → (ℕ → List BodyItem) → ℕ → BlockEnding → End → Result (List RunEvent) RunFault → Type 0
+  abbrev pub ThenDoes : List BodyItem → (ℕ → List BodyItem) → ℕ → BlockEnding → End → Result (List RunEvent) RunFault
+      → Type 0
   ThenDoes all from b ending end (Ok history) = EndDoes all from b ending history end
   ThenDoes all from b ending end (Err fault) = end ≡ Stops fault
 
@@ -87,7 +89,8 @@ abbrev pub BlocksAreCut : Type 0
 BlocksAreCut = (frames : List FrameShape) (numbers : Numbers) (items : List BodyItem) → numbers.block ≡ block_number items → IsCut frames numbers items (numbered_blocks numbers 0 (blocks_of items))
 
 -- function k of the program has these blocks, which do what its items do
-pub record FunctionIsCut (frames : List FrameShape) (whole : WholeProgram) (k : ℕ) (function : NumberedFunction) : Type 0 where
+pub record FunctionIsCut (frames : List FrameShape) (whole : WholeProgram) (k : ℕ)
+    (function : NumberedFunction) : Type 0 where
   pub func : Function
   pub at : slice_get whole.funcs k ≡ Some func
   pub cut : IsCut frames (numbers_in whole (first_frame whole k) func) func.items function.blocks

@@ -47,7 +47,8 @@ resumed of waiting stack (Ok history) = Run waiting.function stack (ahead of wai
 resumed of waiting stack (Err fault) = Done (Faulted fault)
 
 -- its result is stored where it wants it
-abbrev pub result_stored : ItemProgram → Waiting → List Waiting → Option (ℕ × ℕ) → Option Value → List RunEvent → Standing
+abbrev pub result_stored : ItemProgram → Waiting → List Waiting → Option (ℕ × ℕ) → Option Value → List RunEvent
+    → Standing
 result_stored of waiting stack (Some to) (Some value) history = resumed of waiting stack (store (frames_of of.program) history (Ptr to.0 to.1) value)
 result_stored of waiting stack None None history = resumed of waiting stack (Ok history)
 result_stored of waiting stack (Some to) None history = Done Lost

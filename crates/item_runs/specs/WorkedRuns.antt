@@ -10,7 +10,8 @@ use Rattle.alf_program.specs.Tree.{NamedExpression, Number, Address, Load, Jump,
 use Rattle.alf_runs.specs.Outcomes.{Ended, Faulted}
 use Rattle.item_runs.specs.ItemRuns.{ItemProgram, Done, ticks, at_start}
 
--- one global frame of 32 bits, for which each name of a frame stands, and which is exported; each name of a function stands for function 1
+-- one global frame of 32 bits, for which each name of a frame stands, and which is exported; each name of a function
+-- stands for function 1
 abbrev with : List BodyItem → List BodyItem → ItemProgram
 with root other =
     let row : FrameRow = record { owner = None; name = []; bits = 32 } in

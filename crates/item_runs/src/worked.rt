@@ -1,7 +1,8 @@
 //! Stretches and runs of small items, worked out apart from the definitions.
 
 ghost use Rattle.item_runs.specs.WorkedRuns.{CallsAndReturns, JumpsAhead};
-ghost use Rattle.item_runs.specs.WorkedStretches.{StoresAndJumps, EntersCalls, StopsAtNothing, StopsAtPointer, FirstPlace};
+ghost use Rattle.item_runs.specs.WorkedStretches.{StoresAndJumps, EntersCalls, StopsAtNothing, StopsAtPointer};
+ghost use Rattle.item_runs.specs.WorkedStretches.{FirstPlace};
 
 /// A result is stored where the call wants it, and a jump leads past what stands between.
 pub fn small_items_run_as_worked_out()

@@ -46,7 +46,8 @@ once_cut (suc n) [] once = tt
 once_cut (suc n) (x ∷ lines) once = (absent_cut n x lines once.0, once_cut n lines once.1)
 
 -- what an access leaves of contents is contents
-pub accessed_contents : (sets ways line : ℕ) (c : Contents) → IsContents sets ways c → IsContents sets ways (accessed sets ways c line)
+pub accessed_contents : (sets ways line : ℕ) (c : Contents) → IsContents sets ways c
+    → IsContents sets ways (accessed sets ways c line)
 accessed_contents sets ways line c is = record {
   few = λ s low. by s (λ lines. length lines ≤ ways) (let e = length-take ways (line ∷ without line (c s)) in omega arith) (is.few s low);
   once = λ s low. by s StandOnce (once_cut ways (line ∷ without line (c s)) (absent_without line (c s), once_without line (c s) (is.once s low))) (is.once s low);
@@ -59,11 +60,13 @@ accessed_contents sets ways line c is = record {
     by : (s : ℕ) (P : List ℕ → Type 0) → P (touched ways line (c s)) → P (c s) → P (accessed sets ways c line s)
     by s P new old = by_test (s == set_of sets line) (λ test. rw test new) (λ test. rw test old)
 
-after_contents : (sets ways : ℕ) (c : Contents) (lines : List ℕ) → IsContents sets ways c → IsContents sets ways (contents_after sets ways c lines)
+after_contents : (sets ways : ℕ) (c : Contents) (lines : List ℕ) → IsContents sets ways c
+    → IsContents sets ways (contents_after sets ways c lines)
 after_contents sets ways c [] is = is
 after_contents sets ways c (line ∷ lines) is = after_contents sets ways (accessed sets ways c line) lines (accessed_contents sets ways line c is)
 
 -- and so is what the accesses of a trace leave
-pub contents_stay : (o : Outlined) (c : Contents) (past : List ℕ) → IsContents (sets_of o) (ways_of o) c → IsContents (sets_of o) (ways_of o) (contents_of o c past)
+pub contents_stay : (o : Outlined) (c : Contents) (past : List ℕ) → IsContents (sets_of o) (ways_of o) c
+    → IsContents (sets_of o) (ways_of o) (contents_of o c past)
 contents_stay o c [] is = is
 contents_stay o c (n ∷ past) is = after_contents (sets_of o) (ways_of o) (contents_of o c past) (lines_of o n) (contents_stay o c past is)

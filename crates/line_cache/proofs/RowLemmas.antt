@@ -11,10 +11,12 @@ use Rattle.line_cache.specs.RowLaws.{IsRow, none_second, others_without, others_
 
 -- ---- look-ups
 
-bound_first : (ways : ℕ) (kept : ℕ × ℕ) (row : List (ℕ × ℕ)) (m : ℕ) → (kept.0 == m) ≡ true → bound_in ways (kept ∷ row) m ≡ kept.1
+bound_first : (ways : ℕ) (kept : ℕ × ℕ) (row : List (ℕ × ℕ)) (m : ℕ) → (kept.0 == m) ≡ true
+    → bound_in ways (kept ∷ row) m ≡ kept.1
 bound_first ways kept row m test = rw test refl
 
-bound_further : (ways : ℕ) (kept : ℕ × ℕ) (row : List (ℕ × ℕ)) (m : ℕ) → (kept.0 == m) ≡ false → bound_in ways (kept ∷ row) m ≡ bound_in ways row m
+bound_further : (ways : ℕ) (kept : ℕ × ℕ) (row : List (ℕ × ℕ)) (m : ℕ) → (kept.0 == m) ≡ false
+    → bound_in ways (kept ∷ row) m ≡ bound_in ways row m
 bound_further ways kept row m test = rw test refl
 
 bound_none : (ways : ℕ) (row : List (ℕ × ℕ)) (m : ℕ) → age_in row m ≡ None → bound_in ways row m ≡ ways
@@ -48,12 +50,14 @@ aged_up : (bound age : ℕ) → aged bound age ≤ age + 1
 aged_up bound age = by_test (nat_lt age bound) (λ test. rw test (omega arith)) (λ test. rw test (omega arith))
 
 -- another line ages where it is younger
-others_bound : (ways line bound : ℕ) (row : List (ℕ × ℕ)) (m : ℕ) → bound ≤ ways → m ≢ line → IsRow ways row → bound_in ways (others ways line bound row) m ≡ aged bound (bound_in ways row m)
+others_bound : (ways line bound : ℕ) (row : List (ℕ × ℕ)) (m : ℕ) → bound ≤ ways → m ≢ line → IsRow ways row
+    → bound_in ways (others ways line bound row) m ≡ aged bound (bound_in ways row m)
 others_bound ways line bound [] m low apart is = sym (aged_bound ways bound low)
 others_bound ways line bound (kept ∷ row) m low apart is =
     by_test (kept.0 == m) (at_first (others_bound ways line bound row m low apart is.2)) (at_further (others_bound ways line bound row m low apart is.2))
   where
-    at_first : bound_in ways (others ways line bound row) m ≡ aged bound (bound_in ways row m) → (kept.0 == m) ≡ true → bound_in ways (others ways line bound (kept ∷ row)) m ≡ aged bound (bound_in ways (kept ∷ row) m)
+    at_first : bound_in ways (others ways line bound row) m ≡ aged bound (bound_in ways row m) → (kept.0 == m) ≡ true
+        → bound_in ways (others ways line bound (kept ∷ row)) m ≡ aged bound (bound_in ways (kept ∷ row) m)
     at_first rest test =
         let name : kept.0 ≡ m = eqb-true kept.0 m test in
         let other : (kept.0 == line) ≡ false = ne_eqb kept.0 line (λ e. apart (sym name ∙ e)) in
@@ -68,7 +72,8 @@ others_bound ways line bound (kept ∷ row) m low apart is =
         rw (other, drop) (bound_none ways (others ways line bound row) m gone ∙ same ∙ ap (λ (a : ℕ). aged bound a) (sym is_age)))
         (λ keep. rw (other, keep) (bound_first ways (kept.0, aged bound kept.1) (others ways line bound row) m test ∙ ap (λ (a : ℕ). aged bound a) (sym is_age)))
 
-    at_further : bound_in ways (others ways line bound row) m ≡ aged bound (bound_in ways row m) → (kept.0 == m) ≡ false → bound_in ways (others ways line bound (kept ∷ row)) m ≡ aged bound (bound_in ways (kept ∷ row) m)
+    at_further : bound_in ways (others ways line bound row) m ≡ aged bound (bound_in ways row m) → (kept.0 == m) ≡ false
+        → bound_in ways (others ways line bound (kept ∷ row)) m ≡ aged bound (bound_in ways (kept ∷ row) m)
     at_further rest test =
         let same = rest ∙ ap (λ (a : ℕ). aged bound a) (sym (bound_further ways kept row m test)) in
         by_test ((kept.0 == line) || nat_le ways (aged bound kept.1))
@@ -92,12 +97,14 @@ touched_bound ways line row m is =
 -- ---- a join
 
 -- a join gives each line the greater bound
-pub joined_bound : (ways : ℕ) (a b : List (ℕ × ℕ)) (m : ℕ) → IsRow ways a → IsRow ways b → bound_in ways (joined_row a b) m ≡ max (bound_in ways a m) (bound_in ways b m)
+pub joined_bound : (ways : ℕ) (a b : List (ℕ × ℕ)) (m : ℕ) → IsRow ways a → IsRow ways b
+    → bound_in ways (joined_row a b) m ≡ max (bound_in ways a m) (bound_in ways b m)
 joined_bound ways [] b m is_a is_b = let low = bound_low ways b m is_b in omega arith
 joined_bound ways (kept ∷ a) b m is_a is_b =
     by_test (kept.0 == m) (λ test. at_first (age_in b kept.0) refl test) (λ test. at_further (joined_bound ways a b m is_a.2 is_b) (age_in b kept.0) refl test)
   where
-    at_first : (found : Option ℕ) → age_in b kept.0 ≡ found → (kept.0 == m) ≡ true → bound_in ways (joined_row (kept ∷ a) b) m ≡ max (bound_in ways (kept ∷ a) m) (bound_in ways b m)
+    at_first : (found : Option ℕ) → age_in b kept.0 ≡ found → (kept.0 == m) ≡ true
+        → bound_in ways (joined_row (kept ∷ a) b) m ≡ max (bound_in ways (kept ∷ a) m) (bound_in ways b m)
     at_first None e test =
         let name : kept.0 ≡ m = eqb-true kept.0 m test in
         let none_b : bound_in ways b m ≡ ways = bound_none ways b m (subst (λ (x : ℕ). age_in b x ≡ None) name e) in
@@ -113,11 +120,15 @@ joined_bound ways (kept ∷ a) b m is_a is_b =
         let first : bound_in ways ((kept.0, max kept.1 other) ∷ joined_row a b) m ≡ max kept.1 other = bound_first ways (kept.0, max kept.1 other) (joined_row a b) m test in
         rw e (first ∙ omega arith)
 
-    at_further : bound_in ways (joined_row a b) m ≡ max (bound_in ways a m) (bound_in ways b m) → (found : Option ℕ) → age_in b kept.0 ≡ found → (kept.0 == m) ≡ false → bound_in ways (joined_row (kept ∷ a) b) m ≡ max (bound_in ways (kept ∷ a) m) (bound_in ways b m)
+    at_further : bound_in ways (joined_row a b) m ≡ max (bound_in ways a m) (bound_in ways b m) → (found : Option ℕ)
+        → age_in b kept.0 ≡ found → (kept.0 == m) ≡ false
+        → bound_in ways (joined_row (kept ∷ a) b) m ≡ max (bound_in ways (kept ∷ a) m) (bound_in ways b m)
     at_further rest found e test =
         let same : bound_in ways (kept ∷ a) m ≡ bound_in ways a m = bound_further ways kept a m test in
         by found e (rest ∙ ap (λ (k : ℕ). max k (bound_in ways b m)) (sym same))
       where
-        by : (found : Option ℕ) → age_in b kept.0 ≡ found → bound_in ways (joined_row a b) m ≡ max (bound_in ways (kept ∷ a) m) (bound_in ways b m) → bound_in ways (joined_row (kept ∷ a) b) m ≡ max (bound_in ways (kept ∷ a) m) (bound_in ways b m)
+        by : (found : Option ℕ) → age_in b kept.0 ≡ found
+            → bound_in ways (joined_row a b) m ≡ max (bound_in ways (kept ∷ a) m) (bound_in ways b m)
+            → bound_in ways (joined_row (kept ∷ a) b) m ≡ max (bound_in ways (kept ∷ a) m) (bound_in ways b m)
         by None e rest = rw e rest
         by (Some other) e rest = rw e (bound_further ways (kept.0, max kept.1 other) (joined_row a b) m test ∙ rest)

@@ -27,7 +27,8 @@ abbrev without : ℕ → List ℕ → List ℕ
 without line lines = filter (λ other. not (other == line)) lines
 
 -- a line stands no farther among the others
-still_stands : (line other : ℕ) (lines : List ℕ) (i : ℕ) → other ≢ line → slice_get lines i ≡ Some other → Stands (without line lines) other i
+still_stands : (line other : ℕ) (lines : List ℕ) (i : ℕ) → other ≢ line → slice_get lines i ≡ Some other
+    → Stands (without line lines) other i
 still_stands line other [] i apart at = absurd (none-some other at)
 still_stands line other (x ∷ lines) zero apart at =
     let same : x ≡ other = same_Some x other at in
@@ -40,7 +41,8 @@ still_stands line other (x ∷ lines) (suc i) apart at =
     (λ test. rw test (suc rest.0, omega (arith, rest.1), rest.2))
 
 -- and nearer where it stood behind the one that is taken out
-stands_nearer : (line other : ℕ) (lines : List ℕ) (p i : ℕ) → other ≢ line → slice_get lines p ≡ Some line → slice_get lines i ≡ Some other → p ≤ i → (j : ℕ) × (j + 1 ≤ i) × (slice_get (without line lines) j ≡ Some other)
+stands_nearer : (line other : ℕ) (lines : List ℕ) (p i : ℕ) → other ≢ line → slice_get lines p ≡ Some line
+    → slice_get lines i ≡ Some other → p ≤ i → (j : ℕ) × (j + 1 ≤ i) × (slice_get (without line lines) j ≡ Some other)
 stands_nearer line other [] p i apart first at le = absurd (none-some other at)
 stands_nearer line other (x ∷ lines) zero zero apart first at le = absurd (apart (sym (same_Some x other at) ∙ same_Some x line first))
 stands_nearer line other (x ∷ lines) zero (suc i) apart first at le =
@@ -55,7 +57,8 @@ stands_nearer line other (x ∷ lines) (suc p) (suc i) apart first at le =
     (λ test. rw test (suc rest.0, omega (arith, rest.1), rest.2))
 
 -- what stands before the cut stays
-within_cut : (n : ℕ) (lines : List ℕ) (i line : ℕ) → i < n → slice_get lines i ≡ Some line → slice_get (take n lines) i ≡ Some line
+within_cut : (n : ℕ) (lines : List ℕ) (i line : ℕ) → i < n → slice_get lines i ≡ Some line
+    → slice_get (take n lines) i ≡ Some line
 within_cut n [] i line low at = absurd (none-some line at)
 within_cut zero (x ∷ lines) i line low at = absurd (omega arith)
 within_cut (suc n) (x ∷ lines) zero line low at = at
@@ -79,10 +82,12 @@ age_in_row (kept ∷ row) line age found = by_test (kept.0 == line)
     subst (λ (k : ℕ × ℕ). Contains (k ∷ row) (line, age)) (sym same) (first_member (line, age) row))
     (λ test. further_member kept row (line, age) (age_in_row row line age (subst (λ (t : Option ℕ). t ≡ Some age) (further_age kept row line test) found)))
   where
-    first_age : (kept : ℕ × ℕ) (row : List (ℕ × ℕ)) (line : ℕ) → (kept.0 == line) ≡ true → age_in (kept ∷ row) line ≡ Some kept.1
+    first_age : (kept : ℕ × ℕ) (row : List (ℕ × ℕ)) (line : ℕ) → (kept.0 == line) ≡ true
+        → age_in (kept ∷ row) line ≡ Some kept.1
     first_age kept row line test = rw test refl
 
-    further_age : (kept : ℕ × ℕ) (row : List (ℕ × ℕ)) (line : ℕ) → (kept.0 == line) ≡ false → age_in (kept ∷ row) line ≡ age_in row line
+    further_age : (kept : ℕ × ℕ) (row : List (ℕ × ℕ)) (line : ℕ) → (kept.0 == line) ≡ false
+        → age_in (kept ∷ row) line ≡ age_in row line
     further_age kept row line test = rw test refl
 
     pair_is : (kept : ℕ × ℕ) (a b : ℕ) → kept.0 ≡ a → kept.1 ≡ b → kept ≡ (a, b)
@@ -96,7 +101,8 @@ record IsFrom (ways line bound : ℕ) (row : List (ℕ × ℕ)) (other age : ℕ
   is_aged : age ≡ aged bound before
   below : age < ways
 
-other_from : (ways line bound : ℕ) (row : List (ℕ × ℕ)) (other age : ℕ) → Contains (others ways line bound row) (other, age) → IsFrom ways line bound row other age
+other_from : (ways line bound : ℕ) (row : List (ℕ × ℕ)) (other age : ℕ)
+    → Contains (others ways line bound row) (other, age) → IsFrom ways line bound row other age
 other_from ways line bound [] other age there = no_member (other, age) there
 other_from ways line bound (kept ∷ row) other age there = by_test ((kept.0 == line) || nat_le ways (aged bound kept.1))
     (λ test. further (other_from ways line bound row other age (subst (λ (k : List (ℕ × ℕ)). Contains k (other, age)) (dropped test) there)))
@@ -116,10 +122,12 @@ other_from ways line bound (kept ∷ row) other age there = by_test ((kept.0 == 
     })
     (λ rest. further (other_from ways line bound row other age rest)))
   where
-    dropped : ((kept.0 == line) || nat_le ways (aged bound kept.1)) ≡ true → others ways line bound (kept ∷ row) ≡ others ways line bound row
+    dropped : ((kept.0 == line) || nat_le ways (aged bound kept.1)) ≡ true
+        → others ways line bound (kept ∷ row) ≡ others ways line bound row
     dropped test = rw test refl
 
-    stays : ((kept.0 == line) || nat_le ways (aged bound kept.1)) ≡ false → others ways line bound (kept ∷ row) ≡ (kept.0, aged bound kept.1) ∷ others ways line bound row
+    stays : ((kept.0 == line) || nat_le ways (aged bound kept.1)) ≡ false
+        → others ways line bound (kept ∷ row) ≡ (kept.0, aged bound kept.1) ∷ others ways line bound row
     stays test = rw test refl
 
     further : IsFrom ways line bound row other age → IsFrom ways line bound (kept ∷ row) other age
@@ -134,7 +142,9 @@ other_from ways line bound (kept ∷ row) other age there = by_test ((kept.0 == 
 -- ---- an access
 
 -- where a line stood at most at its age, it stands behind the accessed line at most at its new age
-aged_stands : (ways line : ℕ) (row : List (ℕ × ℕ)) (lines : List ℕ) (other age : ℕ) → IsSureOf row lines → IsFrom ways line (bound_in ways row line) row other age → (j : ℕ) × (j + 1 ≤ age) × (slice_get (without line lines) j ≡ Some other)
+aged_stands : (ways line : ℕ) (row : List (ℕ × ℕ)) (lines : List ℕ) (other age : ℕ) → IsSureOf row lines
+    → IsFrom ways line (bound_in ways row line) row other age
+    → (j : ℕ) × (j + 1 ≤ age) × (slice_get (without line lines) j ≡ Some other)
 aged_stands ways line row lines other age sure from =
     let stood = sure other from.before from.there in
     let near = still_stands line other lines stood.0 from.apart stood.2 in
@@ -154,7 +164,8 @@ aged_stands ways line row lines other age sure from =
     older : (a b : ℕ) → nat_lt a b ≡ false → aged b a ≡ a
     older a b test = rw test refl
 
-    kept_cases : (found : Option ℕ) → age_in row line ≡ found → age ≡ from.before → bound_in ways row line ≤ from.before → age < ways
+    kept_cases : (found : Option ℕ) → age_in row line ≡ found → age ≡ from.before → bound_in ways row line ≤ from.before
+        → age < ways
         → (stood : Stands lines other from.before) → Stands (without line lines) other stood.0
         → (j : ℕ) × (j + 1 ≤ age) × (slice_get (without line lines) j ≡ Some other)
     kept_cases None found e over below stood near =
@@ -169,7 +180,8 @@ aged_stands ways line row lines other age sure from =
         (cases_lt stood.0 first.0)
 
 -- the row after an access is sure of the set after it
-pub touched_sure : (ways line : ℕ) (row : List (ℕ × ℕ)) (lines : List ℕ) → 1 ≤ ways → IsSureOf row lines → IsSureOf (touched_row ways line row) (touched ways line lines)
+pub touched_sure : (ways line : ℕ) (row : List (ℕ × ℕ)) (lines : List ℕ) → 1 ≤ ways → IsSureOf row lines
+    → IsSureOf (touched_row ways line row) (touched ways line lines)
 touched_sure ways line row lines some sure other age there = ⊎_elim
     (λ (among : Contains (others ways line (bound_in ways row line) row) (other, age)).
     let from = other_from ways line (bound_in ways row line) row other age among in
@@ -188,7 +200,8 @@ pub set_low : (sets line : ℕ) → 1 ≤ sets → set_of sets line < sets
 set_low sets line some = mod_below line sets (omega arith)
 
 -- an access leaves the rows sure of what it leaves
-pub accessed_sure : (sets ways line : ℕ) (rows : List (List (ℕ × ℕ))) (c : Contents) → 1 ≤ sets → 1 ≤ ways → length rows ≡ sets → AreSure sets rows c
+pub accessed_sure : (sets ways line : ℕ) (rows : List (List (ℕ × ℕ))) (c : Contents) → 1 ≤ sets → 1 ≤ ways
+    → length rows ≡ sets → AreSure sets rows c
     → AreSure sets (accessed_rows sets ways rows line) (accessed sets ways c line)
 accessed_sure sets ways line rows c some_sets some_ways len sure s low =
     elim (cases_eq s (set_of sets line)) [
@@ -209,11 +222,13 @@ accessed_sure sets ways line rows c some_sets some_ways len sure s low =
     there apart =
         rw (ne_eqb s (set_of sets line) apart) (subst (λ (row : List (ℕ × ℕ)). IsSureOf row (c s)) (sym (get_or-set_other rows (set_of sets line) s (touched_row ways line (row_at rows (set_of sets line))) [] apart)) (sure s low))
 
-pub length-accessed_rows : (sets ways line : ℕ) (rows : List (List (ℕ × ℕ))) → length (accessed_rows sets ways rows line) ≡ length rows
+pub length-accessed_rows : (sets ways line : ℕ) (rows : List (List (ℕ × ℕ)))
+    → length (accessed_rows sets ways rows line) ≡ length rows
 length-accessed_rows sets ways line rows = length-set rows (set_of sets line) (touched_row ways line (row_at rows (set_of sets line)))
 
 -- a line that is kept hits
-pub sure_hits : (sets line : ℕ) (rows : List (List (ℕ × ℕ))) (c : Contents) → 1 ≤ sets → AreSure sets rows c → is_sure sets rows line ≡ true → is_hit sets c line ≡ true
+pub sure_hits : (sets line : ℕ) (rows : List (List (ℕ × ℕ))) (c : Contents) → 1 ≤ sets → AreSure sets rows c
+    → is_sure sets rows line ≡ true → is_hit sets c line ≡ true
 sure_hits sets line rows c some_sets sure kept = found (age_in (row_at rows (set_of sets line)) line) refl
   where
     found : (age : Option ℕ) → age_in (row_at rows (set_of sets line)) line ≡ age → is_hit sets c line ≡ true
@@ -225,7 +240,8 @@ sure_hits sets line rows c some_sets sure kept = found (age_in (row_at rows (set
 -- ---- the lines of a node
 
 -- one access more before them
-follows : (sets ways n line : ℕ) (rows : List (List (ℕ × ℕ))) (c : Contents) (lines : List ℕ) → 1 ≤ sets → AreSure sets rows c
+follows : (sets ways n line : ℕ) (rows : List (List (ℕ × ℕ))) (c : Contents) (lines : List ℕ) → 1 ≤ sets
+    → AreSure sets rows c
     → AreFollowed sets ways n (accessed_rows sets ways rows line) (accessed sets ways c line) lines → AreFollowed sets ways n rows c (line ∷ lines)
 follows sets ways n line rows c lines some_sets sure rest = record {
   sure = rest.sure;
@@ -237,7 +253,8 @@ follows sets ways n line rows c lines some_sets sure rest = record {
     at_most true = omega arith
     at_most false = omega arith
 
-    one : (cond (not (is_hit sets c line)) 1 0 ≤ cond (is_sure sets rows line) 0 1) × (is_hit sets c line ≡ false → ◌≡◌ {A = ℕ} (cond (is_sure sets rows line) 0 1) 1)
+    one : (cond (not (is_hit sets c line)) 1 0 ≤ cond (is_sure sets rows line) 0 1)
+        × (is_hit sets c line ≡ false → ◌≡◌ {A = ℕ} (cond (is_sure sets rows line) 0 1) 1)
     one = by_test (is_sure sets rows line)
         (λ kept. let hits = sure_hits sets line rows c some_sets sure kept in rw (kept, hits) (omega arith, λ misses. absurd (false≢true (sym misses))))
         (λ apart. rw apart (at_most (not (is_hit sets c line)), λ misses. refl))
@@ -247,12 +264,14 @@ follows sets ways n line rows c lines some_sets sure rest = record {
         let e = sum_by-cons (λ (a : Access). cond (not a.hits) 1 0) (record { node = n; line = line; hits = is_hit sets c line }) (accesses_at sets ways (accessed sets ways c line) n lines) in
         omega (arith, e, one.0, rest.few)
 
-    each : (a : Access) → Contains (accesses_at sets ways c n (line ∷ lines)) a → (a.node ≡ n) × (a.hits ≡ false → 0 < unsure sets ways rows (line ∷ lines))
+    each : (a : Access) → Contains (accesses_at sets ways c n (line ∷ lines)) a
+        → (a.node ≡ n) × (a.hits ≡ false → 0 < unsure sets ways rows (line ∷ lines))
     each a there = first_or_further (record { node = n; line = line; hits = is_hit sets c line }) (accesses_at sets ways (accessed sets ways c line) n lines) a there
         (λ same. (sym (ap (λ (x : Access). x.node) same), λ misses. let e = one.1 (ap (λ (x : Access). x.hits) same ∙ misses) in omega (arith, e)))
         (λ further. let more = rest.each a further in (more.0, λ misses. let e = more.1 misses in omega (arith, e)))
 
-pub followed : (sets ways n : ℕ) (rows : List (List (ℕ × ℕ))) (c : Contents) (lines : List ℕ) → 1 ≤ sets → 1 ≤ ways → length rows ≡ sets → AreSure sets rows c → AreFollowed sets ways n rows c lines
+pub followed : (sets ways n : ℕ) (rows : List (List (ℕ × ℕ))) (c : Contents) (lines : List ℕ) → 1 ≤ sets → 1 ≤ ways
+    → length rows ≡ sets → AreSure sets rows c → AreFollowed sets ways n rows c lines
 followed sets ways n rows c [] some_sets some_ways len sure = record { sure = sure; few = omega arith; each = λ a none. no_member a none }
 followed sets ways n rows c (line ∷ lines) some_sets some_ways len sure =
     follows sets ways n line rows c lines some_sets sure

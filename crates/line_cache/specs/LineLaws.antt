@@ -19,14 +19,16 @@ length-line_pairs : (line : ℕ) (parts : List (ℕ × ℕ)) → length (line_pa
 length-line_pairs line [] = refl
 length-line_pairs line (part ∷ parts) = let rest = length-line_pairs line parts in omega arith
 
-pub first_pair : (line : ℕ) (parts : List (ℕ × ℕ)) (n i : ℕ) → i ≡ 2 * n → get_or (line_pairs line parts) i 0 ≡ first_line line (get_or parts n (0, 0))
+pub first_pair : (line : ℕ) (parts : List (ℕ × ℕ)) (n i : ℕ) → i ≡ 2 * n
+    → get_or (line_pairs line parts) i 0 ≡ first_line line (get_or parts n (0, 0))
 first_pair line [] n i e = refl
 first_pair line (part ∷ parts) zero i e = let z : i ≡ 0 = omega arith in subst (λ (j : ℕ). get_or (line_pairs line (part ∷ parts)) j 0 ≡ first_line line part) (sym z) refl
 first_pair line (part ∷ parts) (suc n) zero e = absurd (omega arith)
 first_pair line (part ∷ parts) (suc n) (suc zero) e = absurd (omega arith)
 first_pair line (part ∷ parts) (suc n) (suc (suc i)) e = first_pair line parts n i (omega arith)
 
-pub end_pair : (line : ℕ) (parts : List (ℕ × ℕ)) (n i : ℕ) → i ≡ 2 * n + 1 → get_or (line_pairs line parts) i 0 ≡ end_line line (get_or parts n (0, 0))
+pub end_pair : (line : ℕ) (parts : List (ℕ × ℕ)) (n i : ℕ) → i ≡ 2 * n + 1
+    → get_or (line_pairs line parts) i 0 ≡ end_line line (get_or parts n (0, 0))
 end_pair line [] n i e = refl
 end_pair line (part ∷ parts) zero zero e = absurd (omega arith)
 end_pair line (part ∷ parts) zero (suc i) e = let z : i ≡ 0 = omega arith in subst (λ (j : ℕ). get_or (line_pairs line (part ∷ parts)) (suc j) 0 ≡ end_line line part) (sym z) refl
@@ -35,7 +37,8 @@ end_pair line (part ∷ parts) (suc n) (suc zero) e = absurd (omega arith)
 end_pair line (part ∷ parts) (suc n) (suc (suc i)) e = end_pair line parts n i (omega arith)
 
 -- of a part of no size both numbers are 0
-no_pair : (line : ℕ) (parts : List (ℕ × ℕ)) → HasNoSize parts 0 → (get_or (line_pairs line parts) 0 0 ≡ 0) × (get_or (line_pairs line parts) 1 0 ≡ 0)
+no_pair : (line : ℕ) (parts : List (ℕ × ℕ)) → HasNoSize parts 0
+    → (get_or (line_pairs line parts) 0 0 ≡ 0) × (get_or (line_pairs line parts) 1 0 ≡ 0)
 no_pair line [] none = (refl, refl)
 no_pair line (part ∷ parts) none = rw (eq-eqb part.1 0 none) (refl, refl)
 
@@ -47,7 +50,8 @@ behind_three a b c rest (suc (suc zero)) k e = absurd (omega arith)
 behind_three a b c rest (suc (suc (suc i))) k e = let same : i ≡ k = omega arith in ap (λ (j : ℕ). get_or rest j 0) same
 
 -- the number after the last line of a part is at least that of its first, and small
-end_low : (line : ℕ) (part : ℕ × ℕ) → 4 ≤ line → IsPart part → (first_line line part ≤ end_line line part) × (end_line line part ≤ 2 ^ 21)
+end_low : (line : ℕ) (part : ℕ × ℕ) → 4 ≤ line → IsPart part
+    → (first_line line part ≤ end_line line part) × (end_line line part ≤ 2 ^ 21)
 end_low line part wide small = by_test (part.1 == 0)
     (λ none. rw none (omega arith, omega arith))
     (λ some. let apart = eqb-false part.1 0 some in rw some (between part.0 part.1 (sized part.1 apart) small.0 small.1))
@@ -56,7 +60,8 @@ end_low line part wide small = by_test (part.1 == 0)
     sized zero apart = absurd (apart refl)
     sized (suc n) apart = omega arith
 
-    between : (a b : ℕ) → 1 ≤ b → a ≤ 4194304 → b ≤ 4194304 → (a / line ≤ (a + b - 1) / line + 1) × ((a + b - 1) / line + 1 ≤ 2 ^ 21)
+    between : (a b : ℕ) → 1 ≤ b → a ≤ 4194304 → b ≤ 4194304
+        → (a / line ≤ (a + b - 1) / line + 1) × ((a + b - 1) / line + 1 ≤ 2 ^ 21)
     between a b some a_low b_low =
         let rest = div-mul-le_self a line in
         let up : 2 ^ 21 * 4 ≤ 2 ^ 21 * line = mul-le-mul_left (2 ^ 21) wide in
@@ -65,7 +70,8 @@ end_low line part wide small = by_test (part.1 == 0)
         (omega arith, omega arith)
 
 -- an outline with the notes of as many parts as it has nodes, the first of no size, suits
-pub notes_suit : (shape : Shape) (parts : List (ℕ × ℕ)) → IsShape shape → All IsPart parts → (o : Outlined) → length o.nodes ≡ length parts → CostsFit o → HasNoSize parts 0 → o.notes ≡ notes_of shape parts → IsNoted o
+pub notes_suit : (shape : Shape) (parts : List (ℕ × ℕ)) → IsShape shape → All IsPart parts → (o : Outlined)
+    → length o.nodes ≡ length parts → CostsFit o → HasNoSize parts 0 → o.notes ≡ notes_of shape parts → IsNoted o
 notes_suit shape parts shaped small o len costs none noted = record {
   two_each = ap length noted ∙ (let e = length-line_pairs shape.line parts in omega arith);
   sets = subst (λ (notes : List ℕ). (1 ≤ get_or notes 0 0) × (get_or notes 0 0 ≤ 1024)) (sym noted) shaped.sets;

@@ -9,7 +9,8 @@ use Rattle.line_cache.specs.LineLaws.{first_pair, end_pair, behind_three}
 use Rattle.line_cache.specs.PartLines.{part_lines}
 
 -- an outline that has the notes of parts has their lines
-pub lines_are : (shape : Shape) (parts : List (ℕ × ℕ)) (o : Outlined) → o.notes ≡ notes_of shape parts → (n : ℕ) → lines_of o n ≡ part_lines shape.line (get_or parts n (0, 0))
+pub lines_are : (shape : Shape) (parts : List (ℕ × ℕ)) (o : Outlined) → o.notes ≡ notes_of shape parts → (n : ℕ)
+    → lines_of o n ≡ part_lines shape.line (get_or parts n (0, 0))
 lines_are shape parts o noted n =
     let part : ℕ × ℕ = get_or parts n (0, 0) in
     let first : first_of o n ≡ first_line shape.line part = at (3 + 2 * n) (2 * n) refl ∙ first_pair shape.line parts n (2 * n) refl in

@@ -28,7 +28,8 @@ pub further_member : {A : Type 0} (x : A) (xs : List A) (y : A) → Contains xs 
 further_member x xs y c = contained (x ∷ xs) (suc c.0) y (placed xs y c)
 
 -- a member is the first element or one of the others
-pub first_or_further : {A B : Type 0} (x : A) (xs : List A) (y : A) → Contains (x ∷ xs) y → (x ≡ y → B) → (Contains xs y → B) → B
+pub first_or_further : {A B : Type 0} (x : A) (xs : List A) (y : A) → Contains (x ∷ xs) y → (x ≡ y → B)
+    → (Contains xs y → B) → B
 first_or_further x xs y (zero, low, is) first others = first is
 first_or_further x xs y (suc k, low, is) first others = others (k, omega arith, is)
 

@@ -69,7 +69,8 @@ module _ (whole : WholeProgram) (func : alf.Function) (program : Program) (defin
 
   -- ---- conditions
 
-  branch_stands : (test : NamedExpression) (held failed : List ℕ) (rest : List BodyItem) → Term whole func 1 64 test → IsOwn held
+  branch_stands : (test : NamedExpression) (held failed : List ℕ) (rest : List BodyItem) → Term whole func 1 64 test
+      → IsOwn held
       → IsOwn failed → Items rest → Items (branch test held failed ∷ rest)
   branch_stands test held failed rest term is_held is_failed are = (
     record {
@@ -115,7 +116,8 @@ module _ (whole : WholeProgram) (func : alf.Function) (program : Program) (defin
   joined_stands binary.Or both either plain next k most h i j = j
 
   module _ (scopes : List Scope) (usable : ScopesUsable whole func program scopes) where
-    truth_term : (e : Expression) → NamesStand program.words scopes e → Shallow e → Term whole func 1 64 (is_true (value_of program scopes e))
+    truth_term : (e : Expression) → NamesStand program.words scopes e → Shallow e
+        → Term whole func 1 64 (is_true (value_of program scopes e))
     truth_term e names low =
         deeper whole func 1 (suc (deep e)) 64 _ (omega (arith, low))
         (is_true_term whole func (deep e) (value_of program scopes e) (omega arith)
@@ -180,7 +182,8 @@ module _ (whole : WholeProgram) (func : alf.Function) (program : Program) (defin
     pub new : EachOf (IsNew earlier) targets
     pub differ : Apart (λ t u. t.0.bits ≢ u.0.bits) targets
 
-  first_target : (i : Integer) (k word : ℕ) (earlier : List ℕ) (targets : List (Num × List ℕ)) → word < 2 ^ 32 → k < labels
+  first_target : (i : Integer) (k word : ℕ) (earlier : List ℕ) (targets : List (Num × List ℕ)) → word < 2 ^ 32
+      → k < labels
       → is_label earlier word ≡ false → TargetsStand (word ∷ earlier) targets
       → TargetsStand earlier (target (within whole func program defined f labels results) i word k ∷ targets)
   first_target i k word earlier targets small low new stand =

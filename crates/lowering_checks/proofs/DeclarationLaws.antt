@@ -54,7 +54,8 @@ found_with words e (scope ∷ scopes) token entry found new old =
     found_first e entry (bytes_eq (text_at words e.token) (text_at words token)) (named words token scope)
     (look_up words scopes token) found new old
 
-no_function : {A : Type 0} (kind : Integer) (shape : LocalShapeTree) (o : Outcome) (ps : List Scalar) → local_bound kind shape ≡ FunctionBound o ps → A
+no_function : {A : Type 0} (kind : Integer) (shape : LocalShapeTree) (o : Outcome) (ps : List Scalar)
+    → local_bound kind shape ≡ FunctionBound o ps → A
 no_function kind (LocalInteger first) o ps is = absurd (let bad : Variable (scalars.Integer kind) ≡ FunctionBound o ps = is in cc)
 no_function kind (LocalPointer first) o ps is = absurd (let bad : Variable (scalars.Pointer kind) ≡ FunctionBound o ps = is in cc)
 no_function kind (LocalArray size firsts) o ps is = absurd (let bad : Array kind ≡ FunctionBound o ps = is in cc)

@@ -83,7 +83,8 @@ number_found words (f ∷ fs) token function at =
     let rest = number_found words fs token function (sym (ap (λ (k : ℕ). slice_get (f ∷ fs) k) number) ∙ at) in
     rw further (ap (option_map (λ (n : ℕ). n + 1)) rest))
 
-number_among : (words : List Word) (names tokens : List ℕ) (token n : ℕ) → Contains tokens token → number_at words names token ≡ Some n
+number_among : (words : List Word) (names tokens : List ℕ) (token n : ℕ) → Contains tokens token
+    → number_at words names token ≡ Some n
     → Contains (numbers_at words names tokens) n
 number_among words names [] token n c is = no_member token c
 number_among words names (t ∷ ts) token n c is =
@@ -92,7 +93,8 @@ number_among words names (t ∷ ts) token n c is =
     (sym (ap (number_at words names) same ∙ is)) (first_member n (numbers_at words names ts)))
     (λ rest. with_more (number_at words names t) (number_among words names ts token n rest is))
   where
-    with_more : (x : Option ℕ) → Contains (numbers_at words names ts) n → Contains (with_number x (numbers_at words names ts)) n
+    with_more : (x : Option ℕ) → Contains (numbers_at words names ts) n
+        → Contains (with_number x (numbers_at words names ts)) n
     with_more None c = c
     with_more (Some m) c = further_member m (numbers_at words names ts) n c
 
@@ -134,19 +136,22 @@ module _ (whole_program : WholeProgram) (func : alf.Function) (program : Program
   module _ (usable_results : ResultsUsable) (scopes : List Scope) (usable : ScopesUsable whole_program func program scopes) (calls : ScopesCall scopes) where
     -- ---- expressions
 
-    typed_term : (e : Expression) (t : Scalar) → HasType program.words scopes e t → Shallow e → Term whole_program func 32 53 (value_of program scopes e)
+    typed_term : (e : Expression) (t : Scalar) → HasType program.words scopes e t → Shallow e
+        → Term whole_program func 32 53 (value_of program scopes e)
     typed_term e t has low =
         deeper whole_program func 32 (deep e) 53 _ (omega (arith, low))
         (value_term whole_program func program scopes usable e (names_stand program.words scopes e t has))
 
-    typed_address : (e : Expression) (t : Scalar) → HasType program.words scopes e t → Shallow e → Term whole_program func 32 53 (address_of program scopes e)
+    typed_address : (e : Expression) (t : Scalar) → HasType program.words scopes e t → Shallow e
+        → Term whole_program func 32 53 (address_of program scopes e)
     typed_address e t has low =
         deeper whole_program func 32 (deep e) 53 _ (omega (arith, low))
         (address_term_of whole_program func program scopes usable e (names_stand program.words scopes e t has))
 
     -- ---- calls
 
-    arguments_fit : (es : List Expression) (params : List Parameter) → ArgumentsSuit program.words scopes es (types_of params)
+    arguments_fit : (es : List Expression) (params : List Parameter)
+        → ArgumentsSuit program.words scopes es (types_of params)
         → Every Shallow es → ArgumentsFit whole_program func program f labels (arguments program scopes es params) params
     arguments_fit [] [] suit low = tt
     arguments_fit [] (p ∷ ps) suit low = absurd suit
@@ -162,17 +167,20 @@ module _ (whole_program : WholeProgram) (func : alf.Function) (program : Program
     result_stands outcomes.Nothing n most = tt
     result_stands (outcomes.Integer i) n most = (usable_results n (omega (arith, most)), refl)
 
-    pub known : (call : CallTree) (o : Outcome) → (stands : IsCall program.words defined scopes call o) → CalleeOf call.name o stands.params
+    pub known : (call : CallTree) (o : Outcome) → (stands : IsCall program.words defined scopes call o)
+        → CalleeOf call.name o stands.params
     known call o stands = calls call.name stands.entry o stands.params stands.found stands.function stands.made
 
     at_callee : (call : CallTree) (o : Outcome) (stands : IsCall program.words defined scopes call o)
         → function_at program (callee program call) ≡ (known call o stands).function
     at_callee call o stands = ap (λ (x : Option Function). option_map_or (λ function. function) x no_function) (known call o stands).at
 
-    pub gives : (call : CallTree) (o : Outcome) → IsCall program.words defined scopes call o → result_of program call ≡ o
+    pub gives : (call : CallTree) (o : Outcome) → IsCall program.words defined scopes call o
+        → result_of program call ≡ o
     gives call o stands = ap (λ (g : Function). g.result) (at_callee call o stands) ∙ (known call o stands).result
 
-    call_stands : (call : CallTree) (o : Outcome) (n : ℕ) → IsCall program.words defined scopes call o → InCall Shallow call
+    call_stands : (call : CallTree) (o : Outcome) (n : ℕ) → IsCall program.words defined scopes call o
+        → InCall Shallow call
         → IsAsked call.name → n + calls_in_call program call ≤ results
         → CallStands whole_program func program f labels (text_at program.words call.name)
         (arguments program scopes call.arguments (function_at program (callee program call)).parameters)
@@ -197,12 +205,14 @@ module _ (whole_program : WholeProgram) (func : alf.Function) (program : Program
               (result_stands (result_of program call) n most);
         }
 
-    pub call_items_stand : (call : CallTree) (o : Outcome) (n : ℕ) (rest : List BodyItem) → IsCall program.words defined scopes call o
+    pub call_items_stand : (call : CallTree) (o : Outcome) (n : ℕ) (rest : List BodyItem)
+        → IsCall program.words defined scopes call o
         → InCall Shallow call → IsAsked call.name → n + calls_in_call program call ≤ results → AreItems rest
         → AreItems (call_items within scopes call n rest)
     call_items_stand call o n rest stands low asked most are = (call_stands call o n stands low asked most, are)
 
-    result_value_term : (i : Integer) (n : ℕ) → n < results → Term whole_program func 32 3 (result_value (outcomes.Integer i) (call_name program f n))
+    result_value_term : (i : Integer) (n : ℕ) → n < results
+        → Term whole_program func 32 3 (result_value (outcomes.Integer i) (call_name program f n))
     result_value_term i n low =
         extended_term whole_program func i 2 (Load (bits_of_type i) (Address (call_name program f n) 0))
         (load_term whole_program func (bits_of_type i) 1 (Address (call_name program f n) 0) (load_bits i)
@@ -240,7 +250,8 @@ module _ (whole_program : WholeProgram) (func : alf.Function) (program : Program
           bytes = bytes_of_scalar t;
         }
 
-    update_stands : (to : Expression) (op : Binary) (t u : Scalar) (r : NamedExpression) → HasType program.words scopes to t
+    update_stands : (to : Expression) (op : Binary) (t u : Scalar) (r : NamedExpression)
+        → HasType program.words scopes to t
         → Shallow to → Term whole_program func 32 53 r → ItemStands whole_program func program f labels (update program scopes to op u r)
     update_stands to op t u r has low term =
         let kind = kind_of program.words scopes to in
@@ -254,7 +265,8 @@ module _ (whole_program : WholeProgram) (func : alf.Function) (program : Program
           bytes = bytes_of_scalar kind;
         }
 
-    pub effect_items_stand : (effect : EffectTree) (n : ℕ) (rest : List BodyItem) → EffectStands program.words defined scopes effect
+    pub effect_items_stand : (effect : EffectTree) (n : ℕ) (rest : List BodyItem)
+        → EffectStands program.words defined scopes effect
         → InEffect Shallow effect → EachOf IsAsked (asked.calls_in_effect effect)
         → n + calls_in_effect program effect ≤ results → AreItems rest
         → AreItems (effect_items within scopes effect n rest)

@@ -52,7 +52,9 @@ use Rattle.lowering_checks.proofs.ReturnLaws.{label_among, label_once, bits_give
 
 -- ---- functions in order
 
-pub funcs_here : (program : Program) (j : ℕ) (fs : List Function) (i : ℕ) (function : Function) → slice_get fs i ≡ Some function → slice_get (lowered_from program j fs) i ≡ Some (lowered_function program (j + i) function)
+pub funcs_here : (program : Program) (j : ℕ) (fs : List Function) (i : ℕ) (function : Function)
+    → slice_get fs i ≡ Some function
+    → slice_get (lowered_from program j fs) i ≡ Some (lowered_function program (j + i) function)
 funcs_here program j [] i function at = absurd (none-some function at)
 funcs_here program j (f ∷ fs) zero function at =
     ap Some (ap (λ (g : Function). lowered_function program j g) (same_Some f function at) ∙ ap (λ (n : ℕ). lowered_function program n function) (let same : j ≡ j + 0 = omega arith in same))
@@ -64,7 +66,8 @@ pub record IsLowered (program : Program) (j : ℕ) (fs : List Function) (i : ℕ
   pub at : slice_get fs i ≡ Some function
   pub is : lowered_function program (j + i) function ≡ func
 
-pub funcs_back : (program : Program) (j : ℕ) (fs : List Function) (i : ℕ) (func : alf.Function) → slice_get (lowered_from program j fs) i ≡ Some func → IsLowered program j fs i func
+pub funcs_back : (program : Program) (j : ℕ) (fs : List Function) (i : ℕ) (func : alf.Function)
+    → slice_get (lowered_from program j fs) i ≡ Some func → IsLowered program j fs i func
 funcs_back program j [] i func at = absurd (none-some func at)
 funcs_back program j (f ∷ fs) zero func at = record { function = f; at = refl; is = ap (λ (n : ℕ). lowered_function program n f) (let same : j + 0 ≡ j = omega arith in same) ∙ same_Some (lowered_function program j f) func at }
 funcs_back program j (f ∷ fs) (suc i) func at =
@@ -90,7 +93,8 @@ module _ (unit : UnitTree) (names : HasNames (program_of unit)) (stands : UnitSt
 
   -- ---- the functions of the lowered program
 
-  pub func_at : (k : ℕ) (function : Function) → slice_get program.functions k ≡ Some function → slice_get (lowered unit).funcs k ≡ Some (lowered_function program k function)
+  pub func_at : (k : ℕ) (function : Function) → slice_get program.functions k ≡ Some function
+      → slice_get (lowered unit).funcs k ≡ Some (lowered_function program k function)
   func_at k function at = funcs_here program 0 program.functions k function at ∙ ap (λ (n : ℕ). Some (lowered_function program n function)) (let same : 0 + k ≡ k = omega arith in same)
 
   pub record IsOf (k : ℕ) (func : alf.Function) : Type 0 where
@@ -160,7 +164,8 @@ module _ (unit : UnitTree) (names : HasNames (program_of unit)) (stands : UnitSt
 
   -- ---- calls
 
-  result_at : (k : ℕ) (function : Function) → slice_get program.functions k ≡ Some function → (function_at program k).result ≡ function.result
+  result_at : (k : ℕ) (function : Function) → slice_get program.functions k ≡ Some function
+      → (function_at program k).result ≡ function.result
   result_at k function at = ap (λ (x : Option Function). (option_map_or (λ function. function) x no_function).result) at
 
   -- each call of a function agrees with its first return
@@ -180,20 +185,25 @@ module _ (unit : UnitTree) (names : HasNames (program_of unit)) (stands : UnitSt
   -- ---- items
 
   module _ (k : ℕ) (function : Function) (at : slice_get program.functions k ≡ Some function) where
-    args_see : (args : List NamedExpression) (params : List Parameter) → ArgumentsFit (lowered unit) (func k function at) program k (many k function at) args params → SeesAllFrames (lowered unit) (func k function at) (expressions_of args)
+    args_see : (args : List NamedExpression) (params : List Parameter)
+        → ArgumentsFit (lowered unit) (func k function at) program k (many k function at) args params
+        → SeesAllFrames (lowered unit) (func k function at) (expressions_of args)
     args_see [] [] fit = tt
     args_see [] (p ∷ ps) fit = absurd fit
     args_see (e ∷ es) [] fit = absurd fit
     args_see (e ∷ es) (p ∷ ps) fit = (fit.0.sees, args_see es ps fit.1)
 
-    args_sized : (args : List NamedExpression) (params : List Parameter) → ArgumentsFit (lowered unit) (func k function at) program k (many k function at) args params
+    args_sized : (args : List NamedExpression) (params : List Parameter)
+        → ArgumentsFit (lowered unit) (func k function at) program k (many k function at) args params
         → AllZip (λ (arg : NamedExpression) (frame : Allocation). term_size arg ≡ Some frame.bits) args (parameter_frames program params)
     args_sized [] [] fit = tt
     args_sized [] (p ∷ ps) fit = absurd fit
     args_sized (e ∷ es) [] fit = absurd fit
     args_sized (e ∷ es) (p ∷ ps) fit = (fit.0.size, args_sized es ps fit.1)
 
-    result_seen : (o : Outcome) (result : Option (List ℕ × ℕ)) → ResultStands (lowered unit) (func k function at) program k (many k function at) o result → (target : List ℕ × ℕ) → result ≡ Some target → faults.IsSeen (lowered unit) (func k function at) target.0
+    result_seen : (o : Outcome) (result : Option (List ℕ × ℕ))
+        → ResultStands (lowered unit) (func k function at) program k (many k function at) o result
+        → (target : List ℕ × ℕ) → result ≡ Some target → faults.IsSeen (lowered unit) (func k function at) target.0
     result_seen outcomes.Nothing None stand target is = absurd (none-some target is)
     result_seen outcomes.Nothing (Some to) stand target is = absurd stand
     result_seen (outcomes.Integer i) None stand target is = absurd (none-some target is)
@@ -205,7 +215,8 @@ module _ (unit : UnitTree) (names : HasNames (program_of unit)) (stands : UnitSt
         ap (λ (b : Bool). agrees b (first_of callee called there).found) (result_has (lowered unit) (func k function at) program k (many k function at) called.result result stand ∙ ap is_given (sym (result_at callee called there)))
         ∙ agrees_as (function_at program callee).result (first_of callee called there).found (first_of callee called there).gives
 
-    call_faultless : (i : ℕ) (label : List ℕ) (args : List NamedExpression) (result : Option (List ℕ × ℕ)) → CallStands (lowered unit) (func k function at) program k (many k function at) label args result
+    call_faultless : (i : ℕ) (label : List ℕ) (args : List NamedExpression) (result : Option (List ℕ × ℕ))
+        → CallStands (lowered unit) (func k function at) program k (many k function at) label args result
         → CallHasNoFault (lowered unit) k (func k function at) i label args result
     call_faultless i label args result stand =
         let called = func stand.callee stand.function stand.at in
@@ -235,16 +246,21 @@ module _ (unit : UnitTree) (names : HasNames (program_of unit)) (stands : UnitSt
               (λ caller label args result among calls named. calls_agree k function at caller label args result among calls named);
         }
       where
-        value_seen : (o : Outcome) (given : Option NamedExpression) → ReturnStands (lowered unit) (func k function at) program k (many k function at) o given → (e : NamedExpression) → given ≡ Some e → SeesFrames (lowered unit) (func k function at) e
+        value_seen : (o : Outcome) (given : Option NamedExpression)
+            → ReturnStands (lowered unit) (func k function at) program k (many k function at) o given
+            → (e : NamedExpression) → given ≡ Some e → SeesFrames (lowered unit) (func k function at) e
         value_seen outcomes.Nothing None stand e is = absurd (none-some e is)
         value_seen outcomes.Nothing (Some x) stand e is = absurd stand
         value_seen (outcomes.Integer i) None stand e is = absurd stand
         value_seen (outcomes.Integer i) (Some x) stand e is = subst (λ (y : NamedExpression). SeesFrames (lowered unit) (func k function at) y) (same_Some x e is) stand.sees
 
-    bytes_hold : (bits : ℕ) (value : NamedExpression) → term_size value ≡ Some bits → bits % 8 ≡ 0 → is_bytes (term_size value) ≡ true
+    bytes_hold : (bits : ℕ) (value : NamedExpression) → term_size value ≡ Some bits → bits % 8 ≡ 0
+        → is_bytes (term_size value) ≡ true
     bytes_hold bits value size bytes = ap is_bytes size ∙ eq-eqb (bits % 8) 0 bytes
 
-    item_faultless : (i : ℕ) (item : BodyItem) → slice_get (items k function at) i ≡ Some item → ItemStands (lowered unit) (func k function at) program k (many k function at) item → ItemHasNoFault (lowered unit) k (func k function at) i item
+    item_faultless : (i : ℕ) (item : BodyItem) → slice_get (items k function at) i ≡ Some item
+        → ItemStands (lowered unit) (func k function at) program k (many k function at) item
+        → ItemHasNoFault (lowered unit) k (func k function at) i item
     item_faultless i (Label label) there stand =
         let once = counted_once k function at label stand in
         record {

@@ -75,18 +75,24 @@ module _ (words : List Word) (globals : List Object) (defined : List ℕ) where
     pub entries : EachEntry EntryIsGlobal scope
     pub body : StatementsStand words defined (in_function function.result) function.scopes function.body
 
-  entry_is_global : (o : Outcome) (name : ℕ) (shape : ShapeTree) → EachOf (Contains globals) (global_object words (element_of o) name shape) → EntryIsGlobal (record { token = name; bound = global_bound o shape })
+  entry_is_global : (o : Outcome) (name : ℕ) (shape : ShapeTree)
+      → EachOf (Contains globals) (global_object words (element_of o) name shape)
+      → EntryIsGlobal (record { token = name; bound = global_bound o shape })
   entry_is_global o name (GlobalInteger first) among is = record { o = _; among = among.0; is = refl }
   entry_is_global o name (GlobalArray size firsts) among is = record { o = _; among = among.0; is = refl }
   entry_is_global o name (FunctionOf params) among is = absurd (none-some is.0 is.1)
 
-  declarators_entries : (o : Outcome) (file : File) (ds : List DeclaratorTree) → EachOf (Contains globals) (globals_declared words (element_of o) ds) → EachEntry EntryIsGlobal file.scope → EachEntry EntryIsGlobal (with_declarators o file ds).scope
+  declarators_entries : (o : Outcome) (file : File) (ds : List DeclaratorTree)
+      → EachOf (Contains globals) (globals_declared words (element_of o) ds) → EachEntry EntryIsGlobal file.scope
+      → EachEntry EntryIsGlobal (with_declarators o file ds).scope
   declarators_entries o file [] among entries = entries
   declarators_entries o file (d ∷ ds) among entries =
       let parts = each_parts (Contains globals) (global_object words (element_of o) d.name d.shape) (globals_declared words (element_of o) ds) among in
       declarators_entries o (with_global file d.name (global_bound o d.shape)) ds parts.1 (entry_is_global o d.name d.shape parts.0, entries)
 
-  pub functions_stand : (file : File) (xs : List ExternalTree) → ExternalsStand words defined file xs → EachEntry EntryIsGlobal file.scope → EachOf (Contains globals) (globals_in words xs) → EachOf FunctionStands (functions_in file xs)
+  pub functions_stand : (file : File) (xs : List ExternalTree) → ExternalsStand words defined file xs
+      → EachEntry EntryIsGlobal file.scope → EachOf (Contains globals) (globals_in words xs)
+      → EachOf FunctionStands (functions_in file xs)
   functions_stand file [] stands entries among = tt
   functions_stand file (Declaration first o ds ∷ xs) stands entries among =
       let parts = each_parts (Contains globals) (globals_declared words (element_of o) ds) (globals_in words xs) among in
@@ -104,14 +110,17 @@ pub record IsFound (words : List Word) (fs : List Function) (token : ℕ) : Type
   pub at : slice_get fs (number_named words fs (text_at words token)) ≡ Some function
   pub named : text_at words function.name ≡ text_at words token
 
-found_further : (words : List Word) (f : Function) (fs : List Function) (token : ℕ) → bytes_eq (text_at words f.name) (text_at words token) ≡ false → IsFound words fs token → IsFound words (f ∷ fs) token
+found_further : (words : List Word) (f : Function) (fs : List Function) (token : ℕ)
+    → bytes_eq (text_at words f.name) (text_at words token) ≡ false → IsFound words fs token
+    → IsFound words (f ∷ fs) token
 found_further words f fs token other found =
     let number : number_named words (f ∷ fs) (text_at words token) ≡ suc (number_named words fs (text_at words token)) =
     ap (λ (b : Bool). if b then 0 else number_named words fs (text_at words token) + 1) other ∙ (omega arith)
     in
     record { function = found.function; at = ap (λ (k : ℕ). slice_get (f ∷ fs) k) number ∙ found.at; named = found.named }
 
-pub defined_found : (words : List Word) (file : File) (xs : List ExternalTree) (token : ℕ) → is_defined words (definitions xs) token ≡ true → IsFound words (functions_in file xs) token
+pub defined_found : (words : List Word) (file : File) (xs : List ExternalTree) (token : ℕ)
+    → is_defined words (definitions xs) token ≡ true → IsFound words (functions_in file xs) token
 defined_found words file [] token made = absurd (let bad : false ≡ true = made in cc)
 defined_found words file (Declaration first o ds ∷ xs) token made = defined_found words (external_after file (Declaration first o ds)) xs token made
 defined_found words file (Definition first o name params body ∷ xs) token made =
@@ -147,7 +156,8 @@ module _ (unit : UnitTree) (names : HasNames (program_of unit)) (stands : UnitSt
     pub low : k < length program.functions
     low = slice_get_within program.functions k function at
 
-    global_usable : (o : Object) → Contains (globals unit names) o → IsUsable (lowered unit) func (frame_of program o.token)
+    global_usable : (o : Object) → Contains (globals unit names) o
+        → IsUsable (lowered unit) func (frame_of program o.token)
     global_usable o among =
         let has = each_member (HasFrame program (global_frames program)) (globals unit names) o among view.globals_part.objects_have in
         record { seen = inl (has.frame, has.among, has.name); written = object_name o (each_member (IsObject program) (globals unit names) o among (all_objects unit names).0) }
@@ -194,16 +204,21 @@ module _ (unit : UnitTree) (names : HasNames (program_of unit)) (stands : UnitSt
     abbrev pub EntryUsable : Entry → Type 0
     EntryUsable e = values.IsObject e.bound → IsUsable (lowered unit) func (frame_of program e.token)
 
-    parameter_entry : (scope : Scope) (p : Parameter) (name : Option ℕ) → p.name ≡ name → IsUsable (lowered unit) func (frame_of program (token_of_parameter p)) → EachEntry EntryUsable scope → EachEntry EntryUsable (with_parameter scope name p.kind)
+    parameter_entry : (scope : Scope) (p : Parameter) (name : Option ℕ) → p.name ≡ name
+        → IsUsable (lowered unit) func (frame_of program (token_of_parameter p)) → EachEntry EntryUsable scope
+        → EachEntry EntryUsable (with_parameter scope name p.kind)
     parameter_entry scope p None is usable entries = entries
     parameter_entry scope p (Some token) is usable entries =
         (λ object. subst (λ (x : Option ℕ). IsUsable (lowered unit) func (frame_of program (option_map_or (λ name. name) x p.first))) is usable, entries)
 
-    parameters_entries : (scope : Scope) (ps : List Parameter) → EachOf (λ (o : Object). IsUsable (lowered unit) func (frame_of program o.token)) (map (parameter_object k) ps) → EachEntry EntryUsable scope → EachEntry EntryUsable (with_parameters scope ps)
+    parameters_entries : (scope : Scope) (ps : List Parameter)
+        → EachOf (λ (o : Object). IsUsable (lowered unit) func (frame_of program o.token)) (map (parameter_object k) ps)
+        → EachEntry EntryUsable scope → EachEntry EntryUsable (with_parameters scope ps)
     parameters_entries scope [] usable entries = entries
     parameters_entries scope (p ∷ ps) usable entries = parameters_entries (with_parameter scope p.name p.kind) ps usable.1 (parameter_entry scope p p.name refl usable.0 entries)
 
-    globals_entries : (scope : Scope) → EachEntry (EntryIsGlobal unit.words (globals unit names) defined) scope → EachEntry EntryUsable scope
+    globals_entries : (scope : Scope) → EachEntry (EntryIsGlobal unit.words (globals unit names) defined) scope
+        → EachEntry EntryUsable scope
     globals_entries [] entries = tt
     globals_entries (e ∷ es) entries =
         (λ object. let g = entries.0 object in subst (λ (token : ℕ). IsUsable (lowered unit) func (frame_of program token)) g.is (global_usable g.o g.among), globals_entries es entries.1)
@@ -245,7 +260,8 @@ module _ (unit : UnitTree) (names : HasNames (program_of unit)) (stands : UnitSt
 
     -- ---- items
 
-    last_stands : (o : Outcome) → (function_at program k).result ≡ o → ItemStands (lowered unit) func program k many (last_return o)
+    last_stands : (o : Outcome) → (function_at program k).result ≡ o
+        → ItemStands (lowered unit) func program k many (last_return o)
     last_stands outcomes.Nothing is = subst (λ (r : Outcome). standing_laws.ReturnStands (lowered unit) func program k many r None) (sym is) tt
     last_stands (outcomes.Integer i) is =
         subst (λ (r : Outcome). standing_laws.ReturnStands (lowered unit) func program k many r (Some (cut i (whole 0)))) (sym is) (deeper (lowered unit) func _ 2 64 _ (omega arith) (cut_term (lowered unit) func i 1 _ (whole_term (lowered unit) func 0 1 (omega arith) (omega arith))))

@@ -80,7 +80,8 @@ module _ (program : Program) (globals : List Object) (frames : List Allocation) 
     pub name : IsName (frame_of program token)
     pub small : bits ≤ 262144
 
-  found_of : (o : Object) → HasFrame program frames o → IsName (frame_of program o.token) → o.bits ≤ 262144 → IsFoundFrame o.token o.bits
+  found_of : (o : Object) → HasFrame program frames o → IsName (frame_of program o.token) → o.bits ≤ 262144
+      → IsFoundFrame o.token o.bits
   found_of o h name small = record {
     frame = h.frame;
     found = subst (λ (x : List ℕ). frame_at frames (frame_place frames x) ≡ Some h.frame) h.name (frame_found frames h.among.0 h.frame apart (placed frames h.frame h.among));
@@ -92,7 +93,8 @@ module _ (program : Program) (globals : List Object) (frames : List Allocation) 
   abbrev pub Found : Object → Type 0
   Found o = IsFoundFrame o.token o.bits
 
-  all_found : (os : List Object) → EachOf (HasFrame program frames) os → EachOf (λ (o : Object). IsName (frame_of program o.token) × (o.bits ≤ 262144)) os → EachOf Found os
+  all_found : (os : List Object) → EachOf (HasFrame program frames) os
+      → EachOf (λ (o : Object). IsName (frame_of program o.token) × (o.bits ≤ 262144)) os → EachOf Found os
   all_found [] h n = tt
   all_found (o ∷ os) h n = (found_of o h.0 n.0.0 n.0.1, all_found os h.1 n.1)
 
@@ -107,18 +109,21 @@ module _ (program : Program) (globals : List Object) (frames : List Allocation) 
   exported : (i : Integer) (token : ℕ) → IsFoundFrame token (bits_of_type i) → Exported token
   exported i token found = (record { frame = found.frame; found = found.found; size = ap is_export_size found.same ∙ export_bits i }, found.name)
 
-  shape_exports : (i : Integer) (name : ℕ) (shape : ShapeTree) → EachOf Found (global_object program.words i name shape) → EachOf Exported (integer_declared name shape)
+  shape_exports : (i : Integer) (name : ℕ) (shape : ShapeTree) → EachOf Found (global_object program.words i name shape)
+      → EachOf Exported (integer_declared name shape)
   shape_exports i name (GlobalInteger first) found = (exported i name found.0, tt)
   shape_exports i name (GlobalArray size firsts) found = tt
   shape_exports i name (FunctionOf params) found = tt
 
-  declarators_exports : (i : Integer) (ds : List DeclaratorTree) → EachOf Found (globals_declared program.words i ds) → EachOf Exported (integers_declared ds)
+  declarators_exports : (i : Integer) (ds : List DeclaratorTree) → EachOf Found (globals_declared program.words i ds)
+      → EachOf Exported (integers_declared ds)
   declarators_exports i [] found = tt
   declarators_exports i (d ∷ ds) found =
       let parts = each_parts Found (global_object program.words i d.name d.shape) (globals_declared program.words i ds) found in
       each_joined Exported (integer_declared d.name d.shape) (integers_declared ds) (shape_exports i d.name d.shape parts.0) (declarators_exports i ds parts.1)
 
-  pub exports_stand : (xs : List ExternalTree) → EachOf Found (globals_in program.words xs) → EachOf Exported (integers_in xs)
+  pub exports_stand : (xs : List ExternalTree) → EachOf Found (globals_in program.words xs)
+      → EachOf Exported (integers_in xs)
   exports_stand [] found = tt
   exports_stand (Declaration first o ds ∷ xs) found =
       let parts = each_parts Found (globals_declared program.words (element_of o) ds) (globals_in program.words xs) found in
@@ -130,7 +135,9 @@ module _ (program : Program) (globals : List Object) (frames : List Allocation) 
   abbrev pub Holds : InitialValue → Type 0
   Holds init = InitHasNoFault frames init × InitialIsWritable init
 
-  holds : (i : Integer) (token bits offset n : ℕ) → IsFoundFrame token bits → n < 2 ^ bits_of_type i → 8 * offset + bits_of_type i ≤ bits → Holds (record { name = frame_of program token; offset = offset; num = number_of_type i n })
+  holds : (i : Integer) (token bits offset n : ℕ) → IsFoundFrame token bits → n < 2 ^ bits_of_type i
+      → 8 * offset + bits_of_type i ≤ bits
+      → Holds (record { name = frame_of program token; offset = offset; num = number_of_type i n })
   holds i token bits offset n found low fits = (
     record {
       frame = found.frame;
@@ -141,11 +148,14 @@ module _ (program : Program) (globals : List Object) (frames : List Allocation) 
     record { name = found.name; offset = (let small = found.small in omega (arith, fits, small)); num = num_low i n low },
   )
 
-  first_low : (i : Integer) (cs : List Constant) → (n : ℕ) × (first_num program i cs ≡ number_of_type i n) × (n < 2 ^ bits_of_type i)
+  first_low : (i : Integer) (cs : List Constant)
+      → (n : ℕ) × (first_num program i cs ≡ number_of_type i n) × (n < 2 ^ bits_of_type i)
   first_low i [] = (0, refl, pow_pos (bits_of_type i))
   first_low i (c ∷ cs) = (word (bits_of_type i) (constant_number program.words c), refl, word_low (bits_of_type i) (constant_number program.words c))
 
-  elements_hold : (i : Integer) (token bits offset count : ℕ) (cs : List Constant) → IsFoundFrame token bits → 8 * offset + count * bits_of_type i ≤ bits → EachOf Holds (element_words program (frame_of program token) i offset count cs)
+  elements_hold : (i : Integer) (token bits offset count : ℕ) (cs : List Constant) → IsFoundFrame token bits
+      → 8 * offset + count * bits_of_type i ≤ bits
+      → EachOf Holds (element_words program (frame_of program token) i offset count cs)
   elements_hold i token bits offset zero cs found fits = tt
   elements_hold i token bits offset (suc count) cs found fits =
       let first = first_low i cs in
@@ -159,18 +169,21 @@ module _ (program : Program) (globals : List Object) (frames : List Allocation) 
   constant_holds i token bits None found fits = holds i token bits 0 0 found (pow_pos (bits_of_type i)) (omega (arith, fits))
   constant_holds i token bits (Some c) found fits = holds i token bits 0 (word (bits_of_type i) (constant_number program.words c)) found (word_low (bits_of_type i) (constant_number program.words c)) (omega (arith, fits))
 
-  shape_inits : (i : Integer) (name : ℕ) (shape : ShapeTree) → EachOf Found (global_object program.words i name shape) → EachOf Holds (shape_words program (frame_of program name) i shape)
+  shape_inits : (i : Integer) (name : ℕ) (shape : ShapeTree) → EachOf Found (global_object program.words i name shape)
+      → EachOf Holds (shape_words program (frame_of program name) i shape)
   shape_inits i name (GlobalInteger first) found = (constant_holds i name (bits_of_type i) first found.0 (omega arith), tt)
   shape_inits i name (GlobalArray size firsts) found = elements_hold i name (count_at program.words size * bits_of_type i) 0 (count_at program.words size) _ found.0 (omega arith)
   shape_inits i name (FunctionOf params) found = tt
 
-  declarators_inits : (i : Integer) (ds : List DeclaratorTree) → EachOf Found (globals_declared program.words i ds) → EachOf Holds (declarators_words program i ds)
+  declarators_inits : (i : Integer) (ds : List DeclaratorTree) → EachOf Found (globals_declared program.words i ds)
+      → EachOf Holds (declarators_words program i ds)
   declarators_inits i [] found = tt
   declarators_inits i (d ∷ ds) found =
       let parts = each_parts Found (global_object program.words i d.name d.shape) (globals_declared program.words i ds) found in
       each_joined Holds (shape_words program (frame_of program d.name) i d.shape) (declarators_words program i ds) (shape_inits i d.name d.shape parts.0) (declarators_inits i ds parts.1)
 
-  pub inits_stand : (xs : List ExternalTree) → EachOf Found (globals_in program.words xs) → EachOf Holds (first_words program xs)
+  pub inits_stand : (xs : List ExternalTree) → EachOf Found (globals_in program.words xs)
+      → EachOf Holds (first_words program xs)
   inits_stand [] found = tt
   inits_stand (Declaration first o ds ∷ xs) found =
       let parts = each_parts Found (globals_declared program.words (element_of o) ds) (globals_in program.words xs) found in

@@ -43,7 +43,8 @@ size_64 : IsSize 64
 size_64 = (omega arith, omega arith)
 
 -- where either operator takes the operands, so does the one that is chosen by the sign of a type
-either_takes : (a b s : ℕ) (l r : Op) (i : Integer) → TakesTwo l sizes a b s → TakesTwo r sizes a b s → TakesTwo (signed_or l r i) sizes a b s
+either_takes : (a b s : ℕ) (l r : Op) (i : Integer) → TakesTwo l sizes a b s → TakesTwo r sizes a b s
+    → TakesTwo (signed_or l r i) sizes a b s
 either_takes a b s l r Char x y = x
 either_takes a b s l r UnsignedChar x y = y
 either_takes a b s l r Short x y = x
@@ -51,7 +52,8 @@ either_takes a b s l r UnsignedShort x y = y
 either_takes a b s l r Int x y = x
 either_takes a b s l r UnsignedInt x y = y
 
-either_compares : (l r : Op) (i : Integer) → TakesTwo l size 32 32 1 → TakesTwo r size 32 32 1 → TakesTwo (signed_or l r i) size 32 32 1
+either_compares : (l r : Op) (i : Integer) → TakesTwo l size 32 32 1 → TakesTwo r size 32 32 1
+    → TakesTwo (signed_or l r i) size 32 32 1
 either_compares l r Char x y = x
 either_compares l r UnsignedChar x y = y
 either_compares l r Short x y = x
@@ -81,7 +83,8 @@ module _ (program : WholeProgram) (func : Function) where
 
   -- ---- parts
 
-  pub sum_term : (n : ℕ) (l r : NamedExpression) → 1 ≤ n → Term program func 32 n l → Term program func 32 n r → Term program func 32 (suc n) (sum l r)
+  pub sum_term : (n : ℕ) (l r : NamedExpression) → 1 ≤ n → Term program func 32 n l → Term program func 32 n r
+      → Term program func 32 (suc n) (sum l r)
   sum_term n l r some t u =
       three_term program func ops.Add size 32 32 1 32 n l r (bit 0)
       (record { are = are_one ops.Add 32 refl size_32; count = refl; first = refl; second = refl; third = refl; none = refl; result = refl }) t u
@@ -94,7 +97,8 @@ module _ (program : WholeProgram) (func : Function) where
       (record { are = are_one ops.Sub 32 refl size_32; count = refl; first = refl; second = refl; third = refl; none = refl; result = refl }) t u
       (bit_term 1 n (omega arith) some)
 
-  pub extended_term : (i : Integer) (n : ℕ) (e : NamedExpression) → Term program func (bits_of_type i) n e → Term program func 32 (suc n) (extended i e)
+  pub extended_term : (i : Integer) (n : ℕ) (e : NamedExpression) → Term program func (bits_of_type i) n e
+      → Term program func 32 (suc n) (extended i e)
   extended_term Char n e t =
       one_term program func ops.SExt (8 ∷ 32 ∷ []) 8 32 n e
       (record { are = are_two ops.SExt 8 32 refl (omega arith, omega arith) size_32; count = refl; first = refl; none = refl; result = refl }) t
@@ -110,7 +114,8 @@ module _ (program : WholeProgram) (func : Function) where
   extended_term Int n e t = deeper program func 32 n (suc n) e (omega arith) t
   extended_term UnsignedInt n e t = deeper program func 32 n (suc n) e (omega arith) t
 
-  pub cut_term : (i : Integer) (n : ℕ) (e : NamedExpression) → Term program func 32 n e → Term program func (bits_of_type i) (suc n) (cut i e)
+  pub cut_term : (i : Integer) (n : ℕ) (e : NamedExpression) → Term program func 32 n e
+      → Term program func (bits_of_type i) (suc n) (cut i e)
   cut_term Char n e t =
       one_term program func ops.Trunc (32 ∷ 8 ∷ []) 32 8 n e
       (record { are = are_two ops.Trunc 32 8 refl size_32 (omega arith, omega arith); count = refl; first = refl; none = refl; result = refl }) t
@@ -127,11 +132,13 @@ module _ (program : WholeProgram) (func : Function) where
   cut_term UnsignedInt n e t = deeper program func 32 n (suc n) e (omega arith) t
 
   -- a value as an object of the type has it
-  pub cut_to_term : (t : Scalar) (n : ℕ) (e : NamedExpression) → Term program func 32 n e → Term program func (bits_of_scalar t) (suc n) (cut_to t e)
+  pub cut_to_term : (t : Scalar) (n : ℕ) (e : NamedExpression) → Term program func 32 n e
+      → Term program func (bits_of_scalar t) (suc n) (cut_to t e)
   cut_to_term (scalars.Integer i) n e t = cut_term i n e t
   cut_to_term (scalars.Pointer i) n e t = deeper program func 32 n (suc n) e (omega arith) t
 
-  pub cast_term : (to : Scalar) (n : ℕ) (e : NamedExpression) → Term program func 32 n e → Term program func 32 (2 + n) (cast_to to e)
+  pub cast_term : (to : Scalar) (n : ℕ) (e : NamedExpression) → Term program func 32 n e
+      → Term program func 32 (2 + n) (cast_to to e)
   cast_term (scalars.Integer i) n e t = deeper program func 32 (suc (suc n)) (2 + n) _ (omega arith) (extended_term i (suc n) (cut i e) (cut_term i n e t))
   cast_term (scalars.Pointer i) n e t = deeper program func 32 n (2 + n) e (omega arith) t
 
@@ -143,7 +150,8 @@ module _ (program : WholeProgram) (func : Function) where
   load_size Int = record { some = omega arith; small = omega arith; bytes = refl }
   load_size UnsignedInt = record { some = omega arith; small = omega arith; bytes = refl }
 
-  pub loaded_term : (t : Scalar) (n : ℕ) (at : NamedExpression) → Term program func 32 n at → Term program func 32 (2 + n) (loaded t at)
+  pub loaded_term : (t : Scalar) (n : ℕ) (at : NamedExpression) → Term program func 32 n at
+      → Term program func 32 (2 + n) (loaded t at)
   loaded_term (scalars.Integer i) n at t =
       deeper program func 32 (suc (suc n)) (2 + n) _ (omega arith)
       (extended_term i (suc n) (Load (bits_of_type i) at) (load_term program func (bits_of_type i) n at (load_size i) t))
@@ -162,7 +170,8 @@ module _ (program : WholeProgram) (func : Function) where
       (record { are = are_two ops.SMul 32 32 refl size_32 size_32; count = refl; first = refl; second = refl; none = refl; result = refl })
       (record { are = are_two ops.UMul 32 32 refl size_32 size_32; count = refl; first = refl; second = refl; none = refl; result = refl })) t u))
 
-  scaled_term : (i : Integer) (of : Scalar) (n : ℕ) (e : NamedExpression) → 1 ≤ n → Term program func 32 n e → Term program func 32 (2 + n) (scaled i of e)
+  scaled_term : (i : Integer) (of : Scalar) (n : ℕ) (e : NamedExpression) → 1 ≤ n → Term program func 32 n e
+      → Term program func 32 (2 + n) (scaled i of e)
   scaled_term i of n e some t =
       by_test (bytes_of_type i == 1)
       (λ one. rw one (deeper program func 32 n (2 + n) e (omega arith) t))
@@ -171,7 +180,8 @@ module _ (program : WholeProgram) (func : Function) where
   sdiv_takes : TakesTwo ops.SDiv sizes 32 32 32
   sdiv_takes = record { are = are_two ops.SDiv 32 32 refl size_32 size_32; count = refl; first = refl; second = refl; none = refl; result = refl }
 
-  counted_term : (i : Integer) (n : ℕ) (e : NamedExpression) → 1 ≤ n → Term program func 32 n e → Term program func 32 (suc n) (counted i e)
+  counted_term : (i : Integer) (n : ℕ) (e : NamedExpression) → 1 ≤ n → Term program func 32 n e
+      → Term program func 32 (suc n) (counted i e)
   counted_term i n e some t =
       by_test (bytes_of_type i == 1)
       (λ one. rw one (deeper program func 32 n (suc n) e (omega arith) t))
@@ -186,7 +196,8 @@ module _ (program : WholeProgram) (func : Function) where
       → Term program func 32 n r → Term program func 1 (suc n) (compared op l r)
   compared_term op n l r takes t u = two_term program func op size 32 32 1 n l r takes t u
 
-  pub is_true_term : (n : ℕ) (e : NamedExpression) → 1 ≤ n → Term program func 32 n e → Term program func 1 (suc n) (is_true e)
+  pub is_true_term : (n : ℕ) (e : NamedExpression) → 1 ≤ n → Term program func 32 n e
+      → Term program func 1 (suc n) (is_true e)
   is_true_term n e some t =
       compared_term ops.Neq n e (whole 0)
       (record { are = are_one ops.Neq 32 refl size_32; count = refl; first = refl; second = refl; none = refl; result = refl }) t
@@ -197,7 +208,8 @@ module _ (program : WholeProgram) (func : Function) where
   more : (k m n : ℕ) (e : NamedExpression) → m ≤ n → Term program func 32 m e → Term program func 32 n e
   more k m n e low t = deeper program func 32 m n e low t
 
-  sum_value_term : (a b : Scalar) (n : ℕ) (l r : NamedExpression) → 1 ≤ n → Term program func 32 n l → Term program func 32 n r
+  sum_value_term : (a b : Scalar) (n : ℕ) (l r : NamedExpression) → 1 ≤ n → Term program func 32 n l
+      → Term program func 32 n r
       → Term program func 32 (3 + n) (sum_value a b l r)
   sum_value_term (scalars.Integer a) (scalars.Integer b) n l r some t u = deeper program func 32 (suc n) (3 + n) _ (omega arith) (sum_term n l r some t u)
   sum_value_term (scalars.Integer a) (scalars.Pointer b) n l r some t u =
@@ -209,7 +221,8 @@ module _ (program : WholeProgram) (func : Function) where
       (sum_term (2 + n) l (scaled a b r) (omega (arith, some)) (deeper program func 32 n (2 + n) l (omega arith) t)
       (scaled_term a b n r some u))
 
-  difference_value_term : (a b : Scalar) (n : ℕ) (l r : NamedExpression) → 1 ≤ n → Term program func 32 n l → Term program func 32 n r
+  difference_value_term : (a b : Scalar) (n : ℕ) (l r : NamedExpression) → 1 ≤ n → Term program func 32 n l
+      → Term program func 32 n r
       → Term program func 32 (3 + n) (difference_value a b l r)
   difference_value_term (scalars.Integer a) b n l r some t u = deeper program func 32 (suc n) (3 + n) _ (omega arith) (difference_term n l r some t u)
   difference_value_term (scalars.Pointer a) (scalars.Integer b) n l r some t u =
@@ -353,7 +366,8 @@ module _ (program : WholeProgram) (func : Function) where
 
   -- ---- operators of one operand, and elements
 
-  pub negation_term : (n : ℕ) (e : NamedExpression) → Term program func 32 n e → Term program func 32 (suc n) (of_one ops.Neg size e)
+  pub negation_term : (n : ℕ) (e : NamedExpression) → Term program func 32 n e
+      → Term program func 32 (suc n) (of_one ops.Neg size e)
   negation_term n e t =
       one_term program func ops.Neg size 32 32 n e
       (record { are = are_one ops.Neg 32 refl size_32; count = refl; first = refl; none = refl; result = refl }) t

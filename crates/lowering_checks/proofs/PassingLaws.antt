@@ -53,19 +53,22 @@ use Rattle.lowering_checks.proofs.SizeLaws.{IsFrameSize, all_sizes, parameters_s
 
 -- ---- rows of calls
 
-names_of_functions : (file : File) (xs : List ExternalTree) → definitions xs ≡ map (λ (g : Function). g.name) (functions_in file xs)
+names_of_functions : (file : File) (xs : List ExternalTree)
+    → definitions xs ≡ map (λ (g : Function). g.name) (functions_in file xs)
 names_of_functions file [] = refl
 names_of_functions file (Declaration first o ds ∷ xs) = names_of_functions (external_after file (Declaration first o ds)) xs
 names_of_functions file (Definition first o name params body ∷ xs) = ap (λ (names : List ℕ). name ∷ names) (names_of_functions (external_after file (Definition first o name params body)) xs)
 
-row_at : (words : List Word) (names : List ℕ) (file : File) (xs : List ExternalTree) (k : ℕ) (function : Function) → slice_get (functions_in file xs) k ≡ Some function
+row_at : (words : List Word) (names : List ℕ) (file : File) (xs : List ExternalTree) (k : ℕ) (function : Function)
+    → slice_get (functions_in file xs) k ≡ Some function
     → slice_index_or (rows_of words names xs) k [] ≡ numbers_at words names (called_in function.body)
 row_at words names file [] k function at = absurd (none-some function at)
 row_at words names file (Declaration first o ds ∷ xs) k function at = row_at words names (external_after file (Declaration first o ds)) xs k function at
 row_at words names file (Definition first o name params body ∷ xs) zero function at = ap (λ (g : Function). numbers_at words names (called_in g.body)) (same_Some _ function at)
 row_at words names file (Definition first o name params body ∷ xs) (suc k) function at = row_at words names (external_after file (Definition first o name params body)) xs k function at
 
-rows_count : (words : List Word) (names : List ℕ) (file : File) (xs : List ExternalTree) → length (rows_of words names xs) ≡ length (functions_in file xs)
+rows_count : (words : List Word) (names : List ℕ) (file : File) (xs : List ExternalTree)
+    → length (rows_of words names xs) ≡ length (functions_in file xs)
 rows_count words names file [] = refl
 rows_count words names file (Declaration first o ds ∷ xs) = rows_count words names (external_after file (Declaration first o ds)) xs
 rows_count words names file (Definition first o name params body ∷ xs) = ap suc (rows_count words names (external_after file (Definition first o name params body)) xs)
@@ -76,7 +79,8 @@ pub record IsRow {A : Type 0} (row : A → List ℕ) (xs : List A) (k v : ℕ) :
   pub at : slice_get xs k ≡ Some x
   pub among : Contains (row x) v
 
-row_of : {A : Type 0} (row : A → List ℕ) (xs : List A) (k v : ℕ) → Contains (slice_index_or (map row xs) k []) v → IsRow row xs k v
+row_of : {A : Type 0} (row : A → List ℕ) (xs : List A) (k v : ℕ) → Contains (slice_index_or (map row xs) k []) v
+    → IsRow row xs k v
 row_of row [] k v c = no_member v c
 row_of row (x ∷ xs) zero v c = record { x = x; at = refl; among = c }
 row_of row (x ∷ xs) (suc k) v c = let rest = row_of row xs k v c in record { x = rest.x; at = rest.at; among = rest.among }
@@ -96,7 +100,9 @@ pub record IsRoot (words : List Word) (fs : List Function) (root : List ℕ) : T
   pub at : slice_get fs number ≡ Some function
   pub named : text_at words function.name ≡ root
 
-root_found : (words : List Word) (file : File) (xs : List ExternalTree) (root : List ℕ) → list_any (λ name. bytes_eq (text_at words name) root) (definitions xs) ≡ true → IsRoot words (functions_in file xs) root
+root_found : (words : List Word) (file : File) (xs : List ExternalTree) (root : List ℕ)
+    → list_any (λ name. bytes_eq (text_at words name) root) (definitions xs) ≡ true
+    → IsRoot words (functions_in file xs) root
 root_found words file [] root some = absurd (let bad : false ≡ true = some in cc)
 root_found words file (Declaration first o ds ∷ xs) root some = root_found words (external_after file (Declaration first o ds)) xs root some
 root_found words file (Definition first o name params body ∷ xs) root some =
@@ -112,11 +118,14 @@ module _ (unit : UnitTree) (names : HasNames (program_of unit)) (stands : UnitSt
 
   -- ---- frames
 
-  frame_is_name : (f lo hi : ℕ) (os : List Object) (a : Allocation) → hi ≤ 256 → IsFrameOf program f lo hi os a → IsName a.name
+  frame_is_name : (f lo hi : ℕ) (os : List Object) (a : Allocation) → hi ≤ 256 → IsFrameOf program f lo hi os a
+      → IsName a.name
   frame_is_name f lo hi os a most (of_object o c is name bits) = subst IsName (sym name) (object_name unit names stands measured o is)
   frame_is_name f lo hi os a most (of_result k from to function few name) = subst IsName (sym name) (call_is_name program names f k function (omega (arith, to, most)))
 
-  frames_written : (f lo hi : ℕ) (os : List Object) (frames : List Allocation) → hi ≤ 256 → EachOf (IsFrameOf program f lo hi os) frames → EachOf (λ (a : Allocation). IsFrameSize a.bits) frames → All AllocationIsWritable frames
+  frames_written : (f lo hi : ℕ) (os : List Object) (frames : List Allocation) → hi ≤ 256
+      → EachOf (IsFrameOf program f lo hi os) frames → EachOf (λ (a : Allocation). IsFrameSize a.bits) frames
+      → All AllocationIsWritable frames
   frames_written f lo hi os frames most known sized =
       each_all AllocationIsWritable frames
       (each_when (λ (a : Allocation). IsFrameOf program f lo hi os a × IsFrameSize a.bits) AllocationIsWritable frames
@@ -129,7 +138,8 @@ module _ (unit : UnitTree) (names : HasNames (program_of unit)) (stands : UnitSt
       let sized = globals_sizes program (definitions unit.externals) 0 (record { scope = []; made = [] }) unit.externals stands small in
       each_when (IsFrameOf program 0 0 0 (globals unit names)) (λ (a : Allocation). IsFrameSize a.bits) (global_frames program) (λ a is. size_of sized a is) (globals_part unit names 0).known
     where
-      size_of : EachOf (λ (o : Object). IsFrameSize o.bits) (globals unit names) → (a : Allocation) → IsFrameOf program 0 0 0 (globals unit names) a → IsFrameSize a.bits
+      size_of : EachOf (λ (o : Object). IsFrameSize o.bits) (globals unit names) → (a : Allocation)
+          → IsFrameOf program 0 0 0 (globals unit names) a → IsFrameSize a.bits
       size_of sized a (of_object o c is name bits) = subst IsFrameSize (sym bits) (each_member (λ (o : Object). IsFrameSize o.bits) (globals unit names) o c sized)
       size_of sized a (of_result k from to function few name) = absurd (omega (arith, to))
 
@@ -150,25 +160,29 @@ module _ (unit : UnitTree) (names : HasNames (program_of unit)) (stands : UnitSt
     term_written : (s : ℕ) (e : NamedExpression) → Term (lowered unit) func s 64 e → ExpressionIsWritable e
     term_written s e term = record { parts = term.parts; depth = term.depth }
 
-    args_written : (args : List NamedExpression) (params : List Parameter) → ArgumentsFit (lowered unit) func program k many args params → EachOf ExpressionIsWritable args
+    args_written : (args : List NamedExpression) (params : List Parameter)
+        → ArgumentsFit (lowered unit) func program k many args params → EachOf ExpressionIsWritable args
     args_written [] [] fit = tt
     args_written [] (p ∷ ps) fit = absurd fit
     args_written (e ∷ es) [] fit = absurd fit
     args_written (e ∷ es) (p ∷ ps) fit = (term_written (bits_of_scalar p.kind) e fit.0, args_written es ps fit.1)
 
-    result_written : (o : Outcome) (result : Option (List ℕ × ℕ)) → ResultStands (lowered unit) func program k many o result → IfSome result AddressIsWritable
+    result_written : (o : Outcome) (result : Option (List ℕ × ℕ))
+        → ResultStands (lowered unit) func program k many o result → IfSome result AddressIsWritable
     result_written outcomes.Nothing None stand = tt
     result_written outcomes.Nothing (Some to) stand = absurd stand
     result_written (outcomes.Integer i) None stand = absurd stand
     result_written (outcomes.Integer i) (Some to) stand = record { name = stand.0.written; offset = subst (λ (n : ℕ). n < 2 ^ 32) (sym stand.1) (omega arith) }
 
-    return_written : (o : Outcome) (value : Option NamedExpression) → ReturnStands (lowered unit) func program k many o value → IfSome value ExpressionIsWritable
+    return_written : (o : Outcome) (value : Option NamedExpression)
+        → ReturnStands (lowered unit) func program k many o value → IfSome value ExpressionIsWritable
     return_written outcomes.Nothing None stand = tt
     return_written outcomes.Nothing (Some e) stand = absurd stand
     return_written (outcomes.Integer i) None stand = absurd stand
     return_written (outcomes.Integer i) (Some e) stand = term_written _ e stand
 
-    target_written : (size : ℕ) (target : Num × List ℕ) → 1 ≤ size → size ≤ 64 → TargetStands (lowered unit) func program k many size target → TargetIsWritable target
+    target_written : (size : ℕ) (target : Num × List ℕ) → 1 ≤ size → size ≤ 64
+        → TargetStands (lowered unit) func program k many size target → TargetIsWritable target
     target_written size target some small stand = record {
       num = record { some = (let same = stand.same in omega (arith, same, some)); small = (let same = stand.same in omega (arith, same, small)); fits = subst (λ (n : ℕ). target.0.bits < 2 ^ n) (sym stand.same) stand.low };
       label = label_written target.1 stand.leads;
@@ -230,7 +244,9 @@ module _ (unit : UnitTree) (names : HasNames (program_of unit)) (stands : UnitSt
 
   -- ---- calls
 
-  called_is : (k v : ℕ) (function : Function) (at : slice_get program.functions k ≡ Some function) (item : BodyItem) → ItemStands (lowered unit) (lowered_function program k function) program k (labels_in_all function.body) item → Contains (called_by (lowered unit).funcs item) v
+  called_is : (k v : ℕ) (function : Function) (at : slice_get program.functions k ≡ Some function) (item : BodyItem)
+      → ItemStands (lowered unit) (lowered_function program k function) program k (labels_in_all function.body) item
+      → Contains (called_by (lowered unit).funcs item) v
       → Contains (called_numbers program k) v
   called_is k v function at (Label label) stand c = no_member v c
   called_is k v function at (Do Null) stand c = no_member v c
@@ -246,7 +262,8 @@ module _ (unit : UnitTree) (names : HasNames (program_of unit)) (stands : UnitSt
       let number : func_number (lowered unit).funcs label ≡ stand.callee = ap (λ (x : Option ℕ). unwrap_or x 0) place in
       first_or_further (func_number (lowered unit).funcs label) [] v c (λ same. subst (λ (n : ℕ). Contains (called_numbers program k) n) (sym number ∙ same) stand.among) (λ rest. no_member v rest)
 
-  edge_is : (u v : ℕ) → Contains (slice_index_or (calls_in (lowered unit)) u []) v → Contains (slice_index_or (calls_of unit) u []) v
+  edge_is : (u v : ℕ) → Contains (slice_index_or (calls_in (lowered unit)) u []) v
+      → Contains (slice_index_or (calls_of unit) u []) v
   edge_is u v c =
       let row = row_of (λ (g : alf.Function). flat_map (called_by (lowered unit).funcs) g.items) (lowered unit).funcs u v c in
       let of = func_of unit names stands measured u row.x row.at in

@@ -42,7 +42,8 @@ pub scalar_size : (t : Scalar) → IsFrameSize (bits_of_scalar t)
 scalar_size (scalars.Integer i) = type_size i
 scalar_size (scalars.Pointer i) = record { some = omega arith; bytes = refl; small = omega arith }
 
-array_size : (i : Integer) (count : ℕ) → 0 < count → count * bits_of_type i ≤ 262144 → IsFrameSize (count * bits_of_type i)
+array_size : (i : Integer) (count : ℕ) → 0 < count → count * bits_of_type i ≤ 262144
+    → IsFrameSize (count * bits_of_type i)
 array_size Char count some small = record { some = omega (arith, some); bytes = omega arith; small = omega (arith, small) }
 array_size UnsignedChar count some small = record { some = omega (arith, some); bytes = omega arith; small = omega (arith, small) }
 array_size Short count some small = record { some = omega (arith, some); bytes = omega arith; small = omega (arith, small) }
@@ -90,12 +91,16 @@ module _ (program : Program) (defined : List ℕ) (f : ℕ) where
   shape_sizes c (LocalPointer first) = first_sizes c first
   shape_sizes c (LocalArray size firsts) = tt
 
-  local_size : (scopes : List Scope) (kind : Integer) (shape : LocalShapeTree) → ShapeStands program.words defined scopes kind shape → bits_of_local program.words kind shape ≤ 262144 → IsFrameSize (bits_of_local program.words kind shape)
+  local_size : (scopes : List Scope) (kind : Integer) (shape : LocalShapeTree)
+      → ShapeStands program.words defined scopes kind shape → bits_of_local program.words kind shape ≤ 262144
+      → IsFrameSize (bits_of_local program.words kind shape)
   local_size scopes kind (LocalInteger first) stand small = type_size kind
   local_size scopes kind (LocalPointer first) stand small = record { some = omega arith; bytes = refl; small = omega arith }
   local_size scopes kind (LocalArray size firsts) stand small = array_size kind (count_at program.words size) stand.some small
 
-  locals_sizes : (kind : Integer) (scopes : List Scope) (locals : List LocalTree) (c : ℕ) → LocalsStand program.words defined kind scopes locals → AreSmall (map (local_object program.words f kind) locals) → AreSized (locals_frames program f c kind locals)
+  locals_sizes : (kind : Integer) (scopes : List Scope) (locals : List LocalTree) (c : ℕ)
+      → LocalsStand program.words defined kind scopes locals → AreSmall (map (local_object program.words f kind) locals)
+      → AreSized (locals_frames program f c kind locals)
   locals_sizes kind scopes [] c stand small = tt
   locals_sizes kind scopes (local ∷ locals) c stand small = (
     local_size (with_local kind scopes local) kind local.shape stand.1 small.0,
@@ -103,7 +108,9 @@ module _ (program : Program) (defined : List ℕ) (f : ℕ) where
   )
 
   mutual
-    pub statement_sizes : (a : Around) (scopes : List Scope) (s : Statement) (c : ℕ) → StatementStands program.words defined a scopes s → AreSmall (locals_in program.words f s) → AreSized (frames_in program f c s)
+    pub statement_sizes : (a : Around) (scopes : List Scope) (s : Statement) (c : ℕ)
+        → StatementStands program.words defined a scopes s → AreSmall (locals_in program.words f s)
+        → AreSized (frames_in program f c s)
     statement_sizes a scopes (Empty token) c stand small = tt
     statement_sizes a scopes (Declares first kind locals) c stand small = locals_sizes kind scopes locals c stand small
     statement_sizes a scopes (Block body) c stand small = all_sizes (inside a) ([] ∷ scopes) body c stand small
@@ -128,7 +135,9 @@ module _ (program : Program) (defined : List ℕ) (f : ℕ) where
     statement_sizes a scopes (Returns token value) c stand small = first_sizes c value
     statement_sizes a scopes (Does effect) c stand small = effect_sizes c effect
 
-    pub all_sizes : (a : Around) (scopes : List Scope) (ss : Statements) (c : ℕ) → StatementsStand program.words defined a scopes ss → AreSmall (all_locals_in program.words f ss) → AreSized (all_frames_in program f c ss)
+    pub all_sizes : (a : Around) (scopes : List Scope) (ss : Statements) (c : ℕ)
+        → StatementsStand program.words defined a scopes ss → AreSmall (all_locals_in program.words f ss)
+        → AreSized (all_frames_in program f c ss)
     all_sizes a scopes Nothing c stand small = tt
     all_sizes a scopes (Then s rest) c stand small =
         let parts = small_parts (locals_in program.words f s) (all_locals_in program.words f rest) small in
@@ -143,18 +152,23 @@ module _ (program : Program) (defined : List ℕ) (f : ℕ) where
   abbrev pub Sized : Object → Type 0
   Sized o = IsFrameSize o.bits
 
-  declared_sizes : (o : Outcome) (file : File) (ds : List DeclaratorTree) → DeclaratorsStand program.words o file ds → AreSmall (globals_declared program.words (element_of o) ds) → EachOf Sized (globals_declared program.words (element_of o) ds)
+  declared_sizes : (o : Outcome) (file : File) (ds : List DeclaratorTree) → DeclaratorsStand program.words o file ds
+      → AreSmall (globals_declared program.words (element_of o) ds)
+      → EachOf Sized (globals_declared program.words (element_of o) ds)
   declared_sizes o file [] stand small = tt
   declared_sizes o file (d ∷ ds) stand small =
       let parts = small_parts (global_object program.words (element_of o) d.name d.shape) (globals_declared program.words (element_of o) ds) small in
       each_joined Sized (global_object program.words (element_of o) d.name d.shape) (globals_declared program.words (element_of o) ds) (shape_size d.shape stand.0 parts.0) (declared_sizes o (with_global file d.name (global_bound o d.shape)) ds stand.1 parts.1)
     where
-      shape_size : (shape : ShapeTree) → UnitsStand.ShapeStands program.words file.scope o d.name shape → AreSmall (global_object program.words (element_of o) d.name shape) → EachOf Sized (global_object program.words (element_of o) d.name shape)
+      shape_size : (shape : ShapeTree) → UnitsStand.ShapeStands program.words file.scope o d.name shape
+          → AreSmall (global_object program.words (element_of o) d.name shape)
+          → EachOf Sized (global_object program.words (element_of o) d.name shape)
       shape_size (GlobalInteger first) stand small = (type_size (element_of o), tt)
       shape_size (GlobalArray size firsts) stand small = (array_size (element_of o) (count_at program.words size) stand.1.some small.0, tt)
       shape_size (FunctionOf params) stand small = tt
 
-  pub globals_sizes : (file : File) (xs : List ExternalTree) → ExternalsStand program.words defined file xs → AreSmall (globals_in program.words xs) → EachOf Sized (globals_in program.words xs)
+  pub globals_sizes : (file : File) (xs : List ExternalTree) → ExternalsStand program.words defined file xs
+      → AreSmall (globals_in program.words xs) → EachOf Sized (globals_in program.words xs)
   globals_sizes file [] stand small = tt
   globals_sizes file (Declaration first o ds ∷ xs) stand small =
       let parts = small_parts (globals_declared program.words (element_of o) ds) (globals_in program.words xs) small in

@@ -61,14 +61,16 @@ module _ (whole : WholeProgram) (func : alf.Function) (program : Program) (defin
 
   -- ---- parts
 
-  condition_part : (scopes : List Scope) (e : Expression) (next : ℕ) (held failed : List ℕ) (rest : List BodyItem) → Known scopes
+  condition_part : (scopes : List Scope) (e : Expression) (next : ℕ) (held failed : List ℕ) (rest : List BodyItem)
+      → Known scopes
       → IsCondition program.words scopes e → Shallow e → next + condition_labels e ≤ labels → Own held → Own failed → Stands rest
       → Stands (condition_items w scopes e next held failed rest)
   condition_part scopes e next held failed rest known is low most is_held is_failed are =
       condition_stands whole func program defined f labels results scopes known.0 e next held failed rest
       (names_stand program.words scopes e is.type is.has) low most is_held is_failed are
 
-  condition_if_stands : (scopes : List Scope) (e : Option Expression) (next held failed : ℕ) (rest : List BodyItem) → Known scopes
+  condition_if_stands : (scopes : List Scope) (e : Option Expression) (next held failed : ℕ) (rest : List BodyItem)
+      → Known scopes
       → IfCondition program.words scopes e → InCondition Shallow e → next + labels_if e ≤ labels → held < labels
       → failed < labels → Stands rest
       → Stands (condition_if w scopes e next held failed rest)
@@ -126,7 +128,8 @@ module _ (whole : WholeProgram) (func : alf.Function) (program : Program) (defin
   again : (a : Around) (b : lowered.Around) → AroundStands a b → AroundStands (inside a) b
   again a b around = record { break = around.break; continue = around.continue; result = around.result }
 
-  known_after : (scopes : List Scope) (s : Statement) → Known scopes → Locals (locals_in program.words f s) → Known (scopes_after scopes s)
+  known_after : (scopes : List Scope) (s : Statement) → Known scopes → Locals (locals_in program.words f s)
+      → Known (scopes_after scopes s)
   known_after scopes (Declares first kind names) known locals =
       known_with_locals whole func program defined f labels results usable_results kind scopes names known locals
   known_after scopes (Case token c) known locals = known
@@ -145,7 +148,8 @@ module _ (whole : WholeProgram) (func : alf.Function) (program : Program) (defin
   known_after scopes (Returns token value) known locals = known
   known_after scopes (Does effect) known locals = known
 
-  around_still : (a : Around) (s : Statement) (b : lowered.Around) → AroundStands a b → AroundStands (around_after program.words a s) b
+  around_still : (a : Around) (s : Statement) (b : lowered.Around) → AroundStands a b
+      → AroundStands (around_after program.words a s) b
   around_still a (Case token c) b around = record { break = around.break; continue = around.continue; result = around.result }
   around_still a (Default token) b around = record { break = around.break; continue = around.continue; result = around.result }
   around_still a (Declares first kind names) b around = around

@@ -42,13 +42,16 @@ module _ (whole : WholeProgram) (func : Function) where
   pub deeper : (s m n : ℕ) (e : NamedExpression) → m ≤ n → Term whole func s m e → Term whole func s n e
   deeper s m n e low t = record { parts = t.parts; depth = (let d = t.depth in omega (arith, d, low)); size = t.size; sees = t.sees }
 
-  pub number_term : (sign : Bool) (s bits n : ℕ) → 1 ≤ s → s ≤ 64 → bits < 2 ^ s → 1 ≤ n → Term whole func s n (Number (record { signed = sign; size = s; bits = bits }))
+  pub number_term : (sign : Bool) (s bits n : ℕ) → 1 ≤ s → s ≤ 64 → bits < 2 ^ s → 1 ≤ n
+      → Term whole func s n (Number (record { signed = sign; size = s; bits = bits }))
   number_term sign s bits n some small fits low = record { parts = record { some = some; small = small; fits = fits }; depth = low; size = refl; sees = tt }
 
-  pub address_term : (name : List ℕ) (offset n : ℕ) → IsUsable whole func name → offset < 2 ^ 32 → 1 ≤ n → Term whole func 32 n (Address name offset)
+  pub address_term : (name : List ℕ) (offset n : ℕ) → IsUsable whole func name → offset < 2 ^ 32 → 1 ≤ n
+      → Term whole func 32 n (Address name offset)
   address_term name offset n is low some = record { parts = record { name = is.written; offset = low }; depth = some; size = refl; sees = is.seen }
 
-  pub load_term : (s n : ℕ) (at : NamedExpression) → IsLoadSize s → Term whole func 32 n at → Term whole func s (suc n) (Load s at)
+  pub load_term : (s n : ℕ) (at : NamedExpression) → IsLoadSize s → Term whole func 32 n at
+      → Term whole func s (suc n) (Load s at)
   load_term s n at is t = record {
     parts = (is, t.parts);
     depth = (let d = t.depth in omega (arith, d));
@@ -56,7 +59,8 @@ module _ (whole : WholeProgram) (func : Function) where
     sees = t.sees;
   }
 
-  pub one_term : (op : Op) (sizes : List ℕ) (a s n : ℕ) (e : NamedExpression) → TakesOne op sizes a s → Term whole func a n e → Term whole func s (suc n) (of_one op sizes e)
+  pub one_term : (op : Op) (sizes : List ℕ) (a s n : ℕ) (e : NamedExpression) → TakesOne op sizes a s
+      → Term whole func a n e → Term whole func s (suc n) (of_one op sizes e)
   one_term op sizes a s n e takes t = record {
     parts = (takes.are, sym takes.count, (t.parts, tt));
     depth = (let d = t.depth in omega (arith, d));
@@ -64,7 +68,8 @@ module _ (whole : WholeProgram) (func : Function) where
     sees = (t.sees, tt);
   }
 
-  pub two_term : (op : Op) (sizes : List ℕ) (a b s n : ℕ) (l r : NamedExpression) → TakesTwo op sizes a b s → Term whole func a n l → Term whole func b n r
+  pub two_term : (op : Op) (sizes : List ℕ) (a b s n : ℕ) (l r : NamedExpression) → TakesTwo op sizes a b s
+      → Term whole func a n l → Term whole func b n r
       → Term whole func s (suc n) (of_two op sizes l r)
   two_term op sizes a b s n l r takes t u = record {
     parts = (takes.are, sym takes.count, (t.parts, (u.parts, tt)));
@@ -78,7 +83,8 @@ module _ (whole : WholeProgram) (func : Function) where
     sees = (t.sees, (u.sees, tt));
   }
 
-  pub three_term : (op : Op) (sizes : List ℕ) (a b c s n : ℕ) (l r x : NamedExpression) → TakesThree op sizes a b c s → Term whole func a n l
+  pub three_term : (op : Op) (sizes : List ℕ) (a b c s n : ℕ) (l r x : NamedExpression) → TakesThree op sizes a b c s
+      → Term whole func a n l
       → Term whole func b n r → Term whole func c n x → Term whole func s (suc n) (of_three op sizes l r x)
   three_term op sizes a b c s n l r x takes t u v = record {
     parts = (takes.are, sym takes.count, (t.parts, (u.parts, (v.parts, tt))));

@@ -23,7 +23,8 @@ use Rattle.lowering_checks.proofs.ConstantLaws.{worth_fits}
 use Rattle.lowering_checks.proofs.OperatorLaws.{whole_term, constant_term, cast_term, loaded_term, binary_term, unary_term, element_term}
 use Rattle.lowering_checks.specs.Values.{IsObjectNamed, NamesStand, deep, ScopesUsable}
 
-pub names_stand : (words : List Word) (scopes : List Scope) (e : Expression) (t : Scalar) → HasType words scopes e t → NamesStand words scopes e
+pub names_stand : (words : List Word) (scopes : List Scope) (e : Expression) (t : Scalar) → HasType words scopes e t
+    → NamesStand words scopes e
 names_stand words scopes e t (constant {token = token} {t = u} is) = tt
 names_stand words scopes e t (object {token = token} {e = entry} {t = u} found is) = record { entry = entry; found = found; is = (u, is) }
 names_stand words scopes e t (within {token = token} {inner = inner} {t = u} of) = names_stand words scopes inner u of
@@ -47,7 +48,8 @@ module _ (whole : WholeProgram) (func : Function) (program : Program) where
   bound_term (FunctionBound o ps) at is = deeper whole func 32 1 3 at (omega arith) is
 
   module _ (scopes : List Scope) (usable : ScopesUsable whole func program scopes) where
-    pub place_term : (token : ℕ) → IsObjectNamed program.words scopes token → Term whole func 32 1 (place_of program scopes token)
+    pub place_term : (token : ℕ) → IsObjectNamed program.words scopes token
+        → Term whole func 32 1 (place_of program scopes token)
     place_term token named =
         subst (λ (x : Option Entry). Term whole func 32 1 (Address (frame_of program (declared_at x token)) 0)) (sym named.found)
         (address_term whole func (frame_of program named.entry.token) 0 1 (usable token named.entry named.found named.is) (omega arith) (omega arith))
@@ -71,7 +73,8 @@ module _ (whole : WholeProgram) (func : Function) (program : Program) where
         (deeper whole func 32 (deep base) n _ (omega arith) t) (deeper whole func 32 (deep index) n _ (omega arith) u)
 
     mutual
-      pub value_term : (e : Expression) → NamesStand program.words scopes e → Term whole func 32 (deep e) (value_of program scopes e)
+      pub value_term : (e : Expression) → NamesStand program.words scopes e
+          → Term whole func 32 (deep e) (value_of program scopes e)
       value_term (OfConstant token) h = constant_of_term (worth_at program.words token) 3 (worth_fits (text_at program.words token)) (omega arith)
       value_term (OfName token) h = name_term token h
       value_term (InParentheses token inner) h = value_term inner h
@@ -95,7 +98,8 @@ module _ (whole : WholeProgram) (func : Function) (program : Program) where
           (deeper whole func 32 (deep left) n _ (omega arith) (value_term left h.0))
           (deeper whole func 32 (deep right) n _ (omega arith) (value_term right h.1)))
 
-      pub address_term_of : (e : Expression) → NamesStand program.words scopes e → Term whole func 32 (deep e) (address_of program scopes e)
+      pub address_term_of : (e : Expression) → NamesStand program.words scopes e
+          → Term whole func 32 (deep e) (address_of program scopes e)
       address_term_of (OfConstant token) h = whole_term whole func 0 3 (omega arith) (omega arith)
       address_term_of (OfName token) h = deeper whole func 32 1 3 _ (omega arith) (place_term token h)
       address_term_of (InParentheses token inner) h = address_term_of inner h

@@ -13,8 +13,12 @@ ghost use Rattle.lowering_checks.specs.Values.{NamesStand, ScopesUsable, deep};
 /// The value of an expression whose names are objects that the function sees has 32 bits, is at most 3 deep and 5
 /// more for each nested operator, can be written, and names frames that the function sees; so has its address.
 pub fn values_are_terms()
-    ensures values { (whole : WholeProgram) (func : Function) (program : Program) (scopes : List Scope) → ScopesUsable whole func program scopes → (e : Expression) → NamesStand program.words scopes e → Term whole func 32 (deep e) (value_of program scopes e) }
-    ensures addresses { (whole : WholeProgram) (func : Function) (program : Program) (scopes : List Scope) → ScopesUsable whole func program scopes → (e : Expression) → NamesStand program.words scopes e → Term whole func 32 (deep e) (address_of program scopes e) }
+    ensures values { (whole : WholeProgram) (func : Function) (program : Program) (scopes : List Scope)
+        → ScopesUsable whole func program scopes → (e : Expression) → NamesStand program.words scopes e
+        → Term whole func 32 (deep e) (value_of program scopes e) }
+    ensures addresses { (whole : WholeProgram) (func : Function) (program : Program) (scopes : List Scope)
+        → ScopesUsable whole func program scopes → (e : Expression) → NamesStand program.words scopes e
+        → Term whole func 32 (deep e) (address_of program scopes e) }
 {}
 
 /// A constant is a word of 32 bits, whatever its text.

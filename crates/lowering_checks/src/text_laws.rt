@@ -16,8 +16,10 @@ use graph_walks::ranked_calls_have_no_cycle;
 /// The lowered program of a unit that the checks pass, whose names and sizes are within what the grammar allows,
 /// can be written, and passes the checks of ALF with the same root.
 pub fn measured_programs_pass()
-    ensures written { (unit : UnitTree) (root ranks : List ℕ) → IsProgram unit root ranks → (names : HasNames (program_of unit)) → IsMeasured unit names → IsWritable (lowered unit) }
-    ensures passes { (unit : UnitTree) (root ranks : List ℕ) → IsProgram unit root ranks → (names : HasNames (program_of unit)) → IsMeasured unit names → Passes (lowered unit) root }
+    ensures written { (unit : UnitTree) (root ranks : List ℕ) → IsProgram unit root ranks
+        → (names : HasNames (program_of unit)) → IsMeasured unit names → IsWritable (lowered unit) }
+    ensures passes { (unit : UnitTree) (root ranks : List ℕ) → IsProgram unit root ranks
+        → (names : HasNames (program_of unit)) → IsMeasured unit names → Passes (lowered unit) root }
 {
     no_fault_is_by_parts();
     ranked_calls_have_no_cycle();

@@ -17,7 +17,8 @@ module _ (program : Program) (names : HasNames program) where
 
   -- ---- labels and results
 
-  pub labels_differ : (f g k l : ℕ) → f < length program.functions → g < length program.functions → k < 10 ^ 64 → l < 10 ^ 64 → label_name program f k ≡ label_name program g l → (f ≡ g) × (k ≡ l)
+  pub labels_differ : (f g k l : ℕ) → f < length program.functions → g < length program.functions → k < 10 ^ 64
+      → l < 10 ^ 64 → label_name program f k ≡ label_name program g l → (f ≡ g) × (k ≡ l)
   labels_differ f g k l low_f low_g low_k low_l e =
       let parts = within_same program names f g (codes "L" ++ decimal k) (codes "L" ++ decimal l) low_f low_g e in
       let rest : 76 ∷ decimal k ≡ 76 ∷ decimal l = parts.1 in

@@ -28,7 +28,8 @@ owner_of owner (a ∷ frames) rest Q own others zero row at = subst Q (same_Some
 owner_of owner (a ∷ frames) rest Q own others (suc i) row at = owner_of owner frames rest Q (λ j b at_b. own (suc j) b at_b) others i row at
 
 -- a row of a function is no global one
-functions_own : (k : ℕ) (funcs : List alf.Function) (i : ℕ) (row : FrameRow) → slice_get (rows_from k funcs) i ≡ Some row → row.owner ≢ None
+functions_own : (k : ℕ) (funcs : List alf.Function) (i : ℕ) (row : FrameRow)
+    → slice_get (rows_from k funcs) i ≡ Some row → row.owner ≢ None
 functions_own k [] i row at = λ e. none-some row at
 functions_own k (func ∷ funcs) i row at =
     owner_of (Some k) func.args (rows_of (Some k) func.decls ++ rows_from (suc k) funcs) (λ (r : FrameRow). r.owner ≢ None) (λ j a at_a e. none-some k (sym e))
@@ -43,16 +44,21 @@ module _ (unit : UnitTree) (names : HasNames (program_of unit)) where
   abbrev IsOfObject : ℕ → Type 0
   IsOfObject n = (o : ℕ) × (n ≡ frame_number unit o)
 
-  known_object : (n : ℕ) (row : FrameRow) (a : Allocation) → IsFrameOf (program_of unit) 0 0 0 (globals_in unit.words unit.externals) a → row.name ≡ a.name → slice_get (frame_rows (lowered unit)) n ≡ Some row → IsOfObject n
+  known_object : (n : ℕ) (row : FrameRow) (a : Allocation)
+      → IsFrameOf (program_of unit) 0 0 0 (globals_in unit.words unit.externals) a → row.name ≡ a.name
+      → slice_get (frame_rows (lowered unit)) n ≡ Some row → IsOfObject n
   known_object n row a (of_object o c is name bits) named at =
       (is.0, number_is unit names is.0 o n row is.1 at (named ∙ name ∙ frame_at (program_of unit) names is.0 o is.1))
   known_object n row a (of_result k from to function few name) named at = absurd (omega (arith, to))
 
-  global_known : (frames : List Allocation) → EachOf (IsFrameOf (program_of unit) 0 0 0 (globals_in unit.words unit.externals)) frames → (i : ℕ) (a : Allocation) → slice_get frames i ≡ Some a
+  global_known : (frames : List Allocation)
+      → EachOf (IsFrameOf (program_of unit) 0 0 0 (globals_in unit.words unit.externals)) frames
+      → (i : ℕ) (a : Allocation) → slice_get frames i ≡ Some a
       → IsFrameOf (program_of unit) 0 0 0 (globals_in unit.words unit.externals) a
   global_known frames each i a at = each_at (IsFrameOf (program_of unit) 0 0 0 (globals_in unit.words unit.externals)) frames i a at each
 
-  pub global_object : (n : ℕ) (row : FrameRow) → slice_get (frame_rows (lowered unit)) n ≡ Some row → row.owner ≡ None → IsOfObject n
+  pub global_object : (n : ℕ) (row : FrameRow) → slice_get (frame_rows (lowered unit)) n ≡ Some row → row.owner ≡ None
+      → IsOfObject n
   global_object n row at global =
       owner_of None decls (rows_from 0 (lowered unit).funcs) (λ (r : FrameRow). r.owner ≡ None → slice_get (frame_rows (lowered unit)) n ≡ Some r → IsOfObject n)
       (λ i a at_a own here. known_object n (row_for None a) a (global_known decls (globals_part unit names 0).known i a at_a) refl here)

@@ -51,17 +51,20 @@ by_function : {A : Type 0} (x : Option Function) → (x ≡ None → A) → ((fu
 by_function None first second = first refl
 by_function (Some function) first second = second function refl
 
-lowered_none : (program : Program) (k : ℕ) (functions : List Function) (f : ℕ) → slice_get functions f ≡ None → slice_get (lowered_from program k functions) f ≡ None
+lowered_none : (program : Program) (k : ℕ) (functions : List Function) (f : ℕ) → slice_get functions f ≡ None
+    → slice_get (lowered_from program k functions) f ≡ None
 lowered_none program k [] f at = refl
 lowered_none program k (g ∷ gs) zero at = absurd (none-some g (sym at))
 lowered_none program k (g ∷ gs) (suc f) at = lowered_none program (suc k) gs f at
 
-function_none : (whole : WholeProgram) (first : ℕ) (funcs : List alf.Function) (g : ℕ) → slice_get funcs g ≡ None → slice_get (functions_from whole first funcs) g ≡ None
+function_none : (whole : WholeProgram) (first : ℕ) (funcs : List alf.Function) (g : ℕ) → slice_get funcs g ≡ None
+    → slice_get (functions_from whole first funcs) g ≡ None
 function_none whole first [] g at = refl
 function_none whole first (f ∷ fs) zero at = absurd (none-some f (sym at))
 function_none whole first (f ∷ fs) (suc g) at = function_none whole (first + (length f.args + length f.decls)) fs g at
 
-function_some : (whole : WholeProgram) (first : ℕ) (funcs : List alf.Function) (g : ℕ) (func : alf.Function) → slice_get funcs g ≡ Some func
+function_some : (whole : WholeProgram) (first : ℕ) (funcs : List alf.Function) (g : ℕ) (func : alf.Function)
+    → slice_get funcs g ≡ Some func
     → slice_get (functions_from whole first funcs) g ≡ Some (numbered_function whole (first + frames_before funcs g) func)
 function_some whole first [] g func at = absurd (none-some func at)
 function_some whole first (f ∷ fs) zero func at =
@@ -91,13 +94,15 @@ module _ (unit : UnitTree) (names : HasNames (program_of unit)) (root : List ℕ
 
   -- ---- arguments
 
-  parameters_known : (g : ℕ) (function : Function) → slice_get P.functions g ≡ Some function → EachOf IsKnown (map (parameter_object g) function.parameters)
+  parameters_known : (g : ℕ) (function : Function) → slice_get P.functions g ≡ Some function
+      → EachOf IsKnown (map (parameter_object g) function.parameters)
   parameters_known g function at =
       let owned = (each_parts IsKnown (globals_in unit.words unit.externals) (meaning.owned_in unit.words 0 unit.externals) all_known).1 in
       subst (λ (n : ℕ). EachOf IsKnown (map (parameter_object n) function.parameters)) (let e : 0 + g ≡ g = omega arith in e)
       (to_function IsKnown unit.words 0 (record { scope = []; made = [] }) unit.externals g function at owned).0
 
-  parameter_number : (g : ℕ) (function : Function) → slice_get P.functions g ≡ Some function → (j : ℕ) (p : Parameter) → slice_get function.parameters j ≡ Some p
+  parameter_number : (g : ℕ) (function : Function) → slice_get P.functions g ≡ Some function → (j : ℕ) (p : Parameter)
+      → slice_get function.parameters j ≡ Some p
       → first_frame (lowered unit) g + j ≡ parameter_frame unit p
   parameter_number g function at j p at_p =
       let o = parameter_object g p in
@@ -114,7 +119,8 @@ module _ (unit : UnitTree) (names : HasNames (program_of unit)) (root : List ℕ
       number_is unit names (object_at (objects_of unit) (token_of_parameter p)) o (first_frame (lowered unit) g + j) (row_for (Some g) (frames.parameter_frame P p)) known
       (arg_at (lowered unit) g (lowered_function P g function) j (frames.parameter_frame P p) here at_arg) refl
 
-  range_is : (params : List Parameter) (start : ℕ) → ((j : ℕ) (p : Parameter) → slice_get params j ≡ Some p → start + j ≡ parameter_frame unit p)
+  range_is : (params : List Parameter) (start : ℕ)
+      → ((j : ℕ) (p : Parameter) → slice_get params j ≡ Some p → start + j ≡ parameter_frame unit p)
       → range_with_len start (length (parameter_frames P params)) ≡ map (parameter_frame unit) params
   range_is [] start each = refl
   range_is (p ∷ ps) start each =
@@ -131,7 +137,8 @@ module _ (unit : UnitTree) (names : HasNames (program_of unit)) (root : List ℕ
   own_parameters : Option Function → List Parameter
   own_parameters found = (option_map_or (λ (function : Function). function) found meaning.no_function).parameters
 
-  no_function_at : (g : ℕ) → slice_get P.functions g ≡ None → slice_get (functions_from (lowered unit) (length decls) (lowered unit).funcs) g ≡ None
+  no_function_at : (g : ℕ) → slice_get P.functions g ≡ None
+      → slice_get (functions_from (lowered unit) (length decls) (lowered unit).funcs) g ≡ None
   no_function_at g none = function_none (lowered unit) (length decls) (lowered unit).funcs g (lowered_none P 0 P.functions g none)
 
   function_number : (g : ℕ) (function : Function) → slice_get P.functions g ≡ Some function
@@ -140,7 +147,8 @@ module _ (unit : UnitTree) (names : HasNames (program_of unit)) (root : List ℕ
       function_some (lowered unit) (length decls) (lowered unit).funcs g (lowered_function P g function)
       (lowered_at P 0 P.functions g function at ∙ ap (λ (n : ℕ). Some (lowered_function P n function)) (let e : 0 + g ≡ g = omega arith in e))
 
-  arguments : (g : ℕ) → args_at (numbered (lowered unit) root) g ≡ map (parameter_frame unit) (function_at P g).parameters
+  arguments : (g : ℕ)
+      → args_at (numbered (lowered unit) root) g ≡ map (parameter_frame unit) (function_at P g).parameters
   arguments g =
       by_function (slice_get P.functions g)
       (λ none.
@@ -184,25 +192,30 @@ module _ (unit : UnitTree) (names : HasNames (program_of unit)) (root : List ℕ
 
   -- ---- exports
 
-  integer_numbered : (kind : Integer) (name : ℕ) (shape : ShapeTree) → EachOf Numbered (global_object unit.words kind name shape) → EachOf IsNumbered (meaning.integer_declared name shape)
+  integer_numbered : (kind : Integer) (name : ℕ) (shape : ShapeTree)
+      → EachOf Numbered (global_object unit.words kind name shape)
+      → EachOf IsNumbered (meaning.integer_declared name shape)
   integer_numbered kind name (GlobalInteger first) all = (all.0, tt)
   integer_numbered kind name (GlobalArray size firsts) all = tt
   integer_numbered kind name (FunctionOf params) all = tt
 
-  declared_numbered : (kind : Integer) (ds : List DeclaratorTree) → EachOf Numbered (globals_declared unit.words kind ds) → EachOf IsNumbered (meaning.integers_declared ds)
+  declared_numbered : (kind : Integer) (ds : List DeclaratorTree)
+      → EachOf Numbered (globals_declared unit.words kind ds) → EachOf IsNumbered (meaning.integers_declared ds)
   declared_numbered kind [] all = tt
   declared_numbered kind (d ∷ ds) all =
       let parts = each_parts Numbered (global_object unit.words kind d.name d.shape) (globals_declared unit.words kind ds) all in
       each_joined IsNumbered (meaning.integer_declared d.name d.shape) (meaning.integers_declared ds) (integer_numbered kind d.name d.shape parts.0) (declared_numbered kind ds parts.1)
 
-  integers_numbered : (xs : List ExternalTree) → EachOf Numbered (globals_in unit.words xs) → EachOf IsNumbered (integers_in xs)
+  integers_numbered : (xs : List ExternalTree) → EachOf Numbered (globals_in unit.words xs)
+      → EachOf IsNumbered (integers_in xs)
   integers_numbered [] all = tt
   integers_numbered (Declaration first o ds ∷ xs) all =
       let parts = each_parts Numbered (globals_declared unit.words (element_of o) ds) (globals_in unit.words xs) all in
       each_joined IsNumbered (meaning.integers_declared ds) (integers_in xs) (declared_numbered (element_of o) ds parts.0) (integers_numbered xs parts.1)
   integers_numbered (Definition first o name params body ∷ xs) all = integers_numbered xs all
 
-  exports_are : (tokens : List ℕ) → EachOf IsNumbered tokens → map (export_number (lowered unit)) (map (frame_of P) tokens) ≡ map (declared_frame unit) tokens
+  exports_are : (tokens : List ℕ) → EachOf IsNumbered tokens
+      → map (export_number (lowered unit)) (map (frame_of P) tokens) ≡ map (declared_frame unit) tokens
   exports_are [] all = refl
   exports_are (token ∷ tokens) all =
       ap (λ (n : ℕ). n ∷ map (export_number (lowered unit)) (map (frame_of P) tokens)) all.0 ∙ ap (λ (ns : List ℕ). declared_frame unit token ∷ ns) (exports_are tokens all.1)
@@ -212,7 +225,8 @@ module _ (unit : UnitTree) (names : HasNames (program_of unit)) (root : List ℕ
   abbrev init : InitialValue → InitRow
   init word = numbered_init 0 decls word
 
-  inits_joined : (xs ys : List InitialValue) (m : List RunEvent) → with_inits (map init (xs ++ ys)) m ≡ with_inits (map init ys) (with_inits (map init xs) m)
+  inits_joined : (xs ys : List InitialValue) (m : List RunEvent)
+      → with_inits (map init (xs ++ ys)) m ≡ with_inits (map init ys) (with_inits (map init xs) m)
   inits_joined [] ys m = refl
   inits_joined (x ∷ xs) ys m = inits_joined xs ys (Store (init x).frame (init x).offset (init x).num.size (values.Int (init x).num.size (init x).num.bits) ∷ m)
 
@@ -220,7 +234,8 @@ module _ (unit : UnitTree) (names : HasNames (program_of unit)) (root : List ℕ
     fits : (kind : Integer) (cs : List Constant) → FitsValue (bits_of_type kind) (first_element unit.words kind cs)
     fits kind cs = (elements unit (λ name. 0) [] kind cs).fits
 
-    put : (m h : List RunEvent) (token offset : ℕ) (kind : Integer) (cs : List Constant) → IsNumbered token → Agrees unit m h
+    put : (m h : List RunEvent) (token offset : ℕ) (kind : Integer) (cs : List Constant) → IsNumbered token
+        → Agrees unit m h
         → Agrees unit (Store (unwrap_or (placed 0 decls (frame_of P token)) 0) offset (bits_of_type kind) (first_element unit.words kind cs) ∷ m)
         (Store (object_at (objects_of unit) token) offset (bits_of_type kind) (first_element unit.words kind cs) ∷ h)
     put m h token offset kind cs is agree =
@@ -232,7 +247,8 @@ module _ (unit : UnitTree) (names : HasNames (program_of unit)) (root : List ℕ
         word_put [] = (events (frame_number unit) (is_object_frame unit) m h agree).put (object_at (objects_of unit) token) offset (bits_of_type kind) (zero_value kind) ((frames_stand unit names).told (object_at (objects_of unit) token)) (fits kind [])
         word_put (c ∷ others) = (events (frame_number unit) (is_object_frame unit) m h agree).put (object_at (objects_of unit) token) offset (bits_of_type kind) (constant_value unit.words kind c) ((frames_stand unit names).told (object_at (objects_of unit) token)) (fits kind (c ∷ others))
 
-    elements_put : (count : ℕ) (m h : List RunEvent) (token offset : ℕ) (kind : Integer) (cs : List Constant) → IsNumbered token → Agrees unit m h
+    elements_put : (count : ℕ) (m h : List RunEvent) (token offset : ℕ) (kind : Integer) (cs : List Constant)
+        → IsNumbered token → Agrees unit m h
         → Agrees unit (with_inits (map init (element_words P (frame_of P token) kind offset count cs)) m) (elements_first P (object_at (objects_of unit) token) kind offset count cs h)
     elements_put zero m h token offset kind cs is agree = agree
     elements_put (suc count) m h token offset kind [] is agree =
@@ -242,7 +258,8 @@ module _ (unit : UnitTree) (names : HasNames (program_of unit)) (root : List ℕ
         elements_put count (Store (unwrap_or (placed 0 decls (frame_of P token)) 0) offset (bits_of_type kind) (constant_value unit.words kind c) ∷ m)
         (Store (object_at (objects_of unit) token) offset (bits_of_type kind) (constant_value unit.words kind c) ∷ h) token (offset + bytes_of_type kind) kind cs is (put m h token offset kind (c ∷ cs) is agree)
 
-    shape_put : (m h : List RunEvent) (kind : Integer) (token : ℕ) (shape : ShapeTree) → EachOf Numbered (global_object unit.words kind token shape) → Agrees unit m h
+    shape_put : (m h : List RunEvent) (kind : Integer) (token : ℕ) (shape : ShapeTree)
+        → EachOf Numbered (global_object unit.words kind token shape) → Agrees unit m h
         → Agrees unit (with_inits (map init (shape_words P (frame_of P token) kind shape)) m) (global_first P kind (object_at (objects_of unit) token) shape h)
     shape_put m h kind token (GlobalInteger None) all agree = put m h token 0 kind [] all.0 agree
     shape_put m h kind token (GlobalInteger (Some c)) all agree = put m h token 0 kind (c ∷ []) all.0 agree
@@ -250,7 +267,8 @@ module _ (unit : UnitTree) (names : HasNames (program_of unit)) (root : List ℕ
         elements_put (count_at unit.words size) m h token 0 kind (option_map_or (λ cs. cs) firsts []) all.0 agree
     shape_put m h kind token (FunctionOf params) all agree = agree
 
-    declarators_put : (ds : List DeclaratorTree) (m h : List RunEvent) (kind : Integer) → EachOf Numbered (globals_declared unit.words kind ds) → Agrees unit m h
+    declarators_put : (ds : List DeclaratorTree) (m h : List RunEvent) (kind : Integer)
+        → EachOf Numbered (globals_declared unit.words kind ds) → Agrees unit m h
         → Agrees unit (with_inits (map init (declarators_words P kind ds)) m) (declarators_first P kind ds h)
     declarators_put [] m h kind all agree = agree
     declarators_put (d ∷ ds) m h kind all agree =
@@ -259,7 +277,8 @@ module _ (unit : UnitTree) (names : HasNames (program_of unit)) (root : List ℕ
         (declarators_put ds (with_inits (map init (shape_words P (frame_of P d.name) kind d.shape)) m) (global_first P kind (object_at (objects_of unit) d.name) d.shape h) kind parts.1
         (shape_put m h kind d.name d.shape parts.0 agree))
 
-    externals_put : (xs : List ExternalTree) (m h : List RunEvent) → EachOf Numbered (globals_in unit.words xs) → Agrees unit m h
+    externals_put : (xs : List ExternalTree) (m h : List RunEvent) → EachOf Numbered (globals_in unit.words xs)
+        → Agrees unit m h
         → Agrees unit (with_inits (map init (first_words P xs)) m) (globals_first P xs h)
     externals_put [] m h all agree = agree
     externals_put (Declaration first o ds ∷ xs) m h all agree =

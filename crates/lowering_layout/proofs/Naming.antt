@@ -36,7 +36,8 @@ pub by_place : {A : Type 0} (x : Option ℕ) → (x ≡ None → A) → ((p : �
 by_place None first second = first refl
 by_place (Some p) first second = second p refl
 
-no_member_of : (test : ℕ → Bool) (start count : ℕ) → ((i : ℕ) → i < count → test (start + i) ≡ false) → list_any test (range_with_len start count) ≡ false
+no_member_of : (test : ℕ → Bool) (start count : ℕ) → ((i : ℕ) → i < count → test (start + i) ≡ false)
+    → list_any test (range_with_len start count) ≡ false
 no_member_of test start zero each = refl
 no_member_of test start (suc count) each =
     ap (λ (b : Bool). b || list_any test (range_with_len (start + 1) count)) (ap test (let e : start ≡ start + 0 = omega arith in e) ∙ each 0 (omega arith))
@@ -53,8 +54,10 @@ module _ (unit : UnitTree) (names : HasNames (program_of unit)) where
 
   data IsIn (o : Object) : Type 0 where
     in_globals : o.owner ≡ None → HasFrame P (global_frames P) o → IsIn o
-    in_args : (f : ℕ) (function : Function) → slice_get P.functions f ≡ Some function → o.owner ≡ Some f → HasFrame P (parameter_frames P function.parameters) o → IsIn o
-    in_decls : (f : ℕ) (function : Function) → slice_get P.functions f ≡ Some function → o.owner ≡ Some f → HasFrame P (all_frames_in P f 0 function.body) o → IsIn o
+    in_args : (f : ℕ) (function : Function) → slice_get P.functions f ≡ Some function → o.owner ≡ Some f
+        → HasFrame P (parameter_frames P function.parameters) o → IsIn o
+    in_decls : (f : ℕ) (function : Function) → slice_get P.functions f ≡ Some function → o.owner ≡ Some f
+        → HasFrame P (all_frames_in P f 0 function.body) o → IsIn o
 
   each_in : EachOf IsIn (objects_of unit)
   each_in =
@@ -106,7 +109,8 @@ module _ (unit : UnitTree) (names : HasNames (program_of unit)) where
       of_args : (a : Allocation) → Contains args a → a.name ≡ name → InView name
       of_decls : (a : Allocation) → Contains decls a → a.name ≡ name → InView name
 
-    no_view : (name : List ℕ) → InView name → frame_place globals name ≡ None → frame_place args name ≡ None → frame_place decls name ≡ None → ⊥
+    no_view : (name : List ℕ) → InView name → frame_place globals name ≡ None → frame_place args name ≡ None
+        → frame_place decls name ≡ None → ⊥
     no_view name (of_globals a c e) g h d = not_placed globals name g a c e
     no_view name (of_args a c e) g h d = not_placed args name h a c e
     no_view name (of_decls a c e) g h d = not_placed decls name d a c e
@@ -153,7 +157,8 @@ module _ (unit : UnitTree) (names : HasNames (program_of unit)) where
     same_function : (g : ℕ) (other : Function) → slice_get P.functions g ≡ Some other → g ≡ f → other ≡ function
     same_function g other at_g e = same_Some other function (sym at_g ∙ ap (λ (n : ℕ). slice_get P.functions n) e ∙ at)
 
-    viewed : (i : ℕ) (o : Object) → slice_get (objects_of unit) i ≡ Some o → (o.owner ≡ None) ⊎ (o.owner ≡ Some f) → IsIn o → InView (name_at P i)
+    viewed : (i : ℕ) (o : Object) → slice_get (objects_of unit) i ≡ Some o → (o.owner ≡ None) ⊎ (o.owner ≡ Some f)
+        → IsIn o → InView (name_at P i)
     viewed i o at_o seen (in_globals owned has) = of_globals has.frame has.among (has.name ∙ frame_at P names i o at_o)
     viewed i o at_o seen (in_args g other at_g owned has) =
         ⊎_elim
@@ -180,7 +185,8 @@ module _ (unit : UnitTree) (names : HasNames (program_of unit)) where
 
     -- ---- results
 
-    result_number : (k : ℕ) (i : Integer) → Contains decls (record { name = call_name P f k; bits = bits_of_type i }) → IsResultFrame unit f i (frame (call_name P f k))
+    result_number : (k : ℕ) (i : Integer) → Contains decls (record { name = call_name P f k; bits = bits_of_type i })
+        → IsResultFrame unit f i (frame (call_name P f k))
     result_number k i among = record { row = row_for (Some f) result; at = at_number; owned = refl; sized = refl; other = no_object }
       where
         result : Allocation
@@ -207,7 +213,8 @@ module _ (unit : UnitTree) (names : HasNames (program_of unit)) where
         within : f < length P.functions
         within = slice_get_within P.functions f function at
 
-        differs : (j : ℕ) (o : Object) → slice_get (objects_of unit) j ≡ Some o → frame_number unit j ≡ frame (call_name P f k) → ⊥
+        differs : (j : ℕ) (o : Object) → slice_get (objects_of unit) j ≡ Some o
+            → frame_number unit j ≡ frame (call_name P f k) → ⊥
         differs j o at_o e =
             let own = row_of unit names j o at_o in
             let same : own.row ≡ row_for (Some f) result = same_Some own.row (row_for (Some f) result) (sym own.at ∙ ap (λ (n : ℕ). slice_get rows n) e ∙ at_number) in

@@ -37,7 +37,8 @@ by_object (Some o) first second = second o refl
 
 -- ---- functions, lowered
 
-pub lowered_at : (program : Program) (k : ℕ) (functions : List Function) (f : ℕ) (function : Function) → slice_get functions f ≡ Some function
+pub lowered_at : (program : Program) (k : ℕ) (functions : List Function) (f : ℕ) (function : Function)
+    → slice_get functions f ≡ Some function
     → slice_get (lowered_from program k functions) f ≡ Some (lowered_function program (k + f) function)
 lowered_at program k [] f function at = absurd (none-some function at)
 lowered_at program k (g ∷ gs) zero function at =
@@ -69,7 +70,8 @@ module _ (P : Object → Type 0) (words : List Word) where
       ))))
 
   -- and the other way round
-  pub to_function : (k : ℕ) (file : File) (xs : List ExternalTree) (i : ℕ) (function : Function) → slice_get (functions_in file xs) i ≡ Some function → EachOf P (owned_in words k xs)
+  pub to_function : (k : ℕ) (file : File) (xs : List ExternalTree) (i : ℕ) (function : Function)
+      → slice_get (functions_in file xs) i ≡ Some function → EachOf P (owned_in words k xs)
       → EachOf P (map (parameter_object (k + i)) function.parameters) × EachOf P (all_locals_in words (k + i) function.body)
   to_function k file [] i function at all = absurd (none-some function at)
   to_function k file (Declaration first o ds ∷ xs) i function at all = to_function k (external_after file (Declaration first o ds)) xs i function at all
@@ -104,7 +106,8 @@ module _ (unit : UnitTree) (names : HasNames (program_of unit)) where
     pub named : row.name ≡ frame_of P o.token
     pub sized : row.bits ≡ o.bits
 
-  function_at : (f : ℕ) (function : Function) → slice_get P.functions f ≡ Some function → slice_get (lowered unit).funcs f ≡ Some (lowered_function P f function)
+  function_at : (f : ℕ) (function : Function) → slice_get P.functions f ≡ Some function
+      → slice_get (lowered unit).funcs f ≡ Some (lowered_function P f function)
   function_at f function at = lowered_at P 0 P.functions f function at ∙ ap (λ (n : ℕ). Some (lowered_function P n function)) (let e : 0 + f ≡ f = omega arith in e)
 
   global_row : (o : Object) → IsGlobal unit.words o × HasFrame P (global_frames P) o → HasRow o
@@ -113,7 +116,8 @@ module _ (unit : UnitTree) (names : HasNames (program_of unit)) where
       let at = member_at (global_frames P) frame has.1.among in
       record { number = has.1.among.0; row = row_for None frame; at = global_at (lowered unit) has.1.among.0 frame at; owned = sym has.0; named = has.1.name; sized = has.1.bits }
 
-  parameter_row : (f : ℕ) (function : Function) → slice_get P.functions f ≡ Some function → (o : Object) → (o.owner ≡ Some f) × HasFrame P (parameter_frames P function.parameters) o → HasRow o
+  parameter_row : (f : ℕ) (function : Function) → slice_get P.functions f ≡ Some function → (o : Object)
+      → (o.owner ≡ Some f) × HasFrame P (parameter_frames P function.parameters) o → HasRow o
   parameter_row f function at o has =
       let frame = has.1.frame in
       let at_frame = member_at (parameter_frames P function.parameters) frame has.1.among in
@@ -126,7 +130,8 @@ module _ (unit : UnitTree) (names : HasNames (program_of unit)) where
         sized = has.1.bits;
       }
 
-  local_row : (f : ℕ) (function : Function) → slice_get P.functions f ≡ Some function → (o : Object) → (o.owner ≡ Some f) × HasFrame P (all_frames_in P f 0 function.body) o → HasRow o
+  local_row : (f : ℕ) (function : Function) → slice_get P.functions f ≡ Some function → (o : Object)
+      → (o.owner ≡ Some f) × HasFrame P (all_frames_in P f 0 function.body) o → HasRow o
   local_row f function at o has =
       let frame = has.1.frame in
       let at_frame = member_at (all_frames_in P f 0 function.body) frame has.1.among in
@@ -169,7 +174,8 @@ module _ (unit : UnitTree) (names : HasNames (program_of unit)) where
     pub named : row.name ≡ name_at P i
     pub sized : row.bits ≡ o.bits
 
-  number_of : (i : ℕ) (o : Object) → slice_get (objects_of unit) i ≡ Some o → frame_number unit i ≡ row_number o.owner (name_at P i) rows
+  number_of : (i : ℕ) (o : Object) → slice_get (objects_of unit) i ≡ Some o
+      → frame_number unit i ≡ row_number o.owner (name_at P i) rows
   number_of i o at =
       ap (λ (x : Option Object). option_map_or (λ (object : Object). row_number object.owner (name_at P i) rows) x (length rows + i)) at
 
@@ -183,7 +189,8 @@ module _ (unit : UnitTree) (names : HasNames (program_of unit)) where
       record { row = has.row; at = ap (λ (n : ℕ). slice_get rows n) one ∙ has.at; owned = has.owned; named = named; sized = has.sized }
 
   -- a row with the name of an object is its row
-  pub number_is : (i : ℕ) (o : Object) (n : ℕ) (row : FrameRow) → slice_get (objects_of unit) i ≡ Some o → slice_get rows n ≡ Some row → row.name ≡ name_at P i → n ≡ frame_number unit i
+  pub number_is : (i : ℕ) (o : Object) (n : ℕ) (row : FrameRow) → slice_get (objects_of unit) i ≡ Some o
+      → slice_get rows n ≡ Some row → row.name ≡ name_at P i → n ≡ frame_number unit i
   number_is i o n row at at_row named =
       let own = row_of i o at in
       one_number rows n (frame_number unit i) row own.row apart at_row own.at (named ∙ sym own.named)
@@ -217,7 +224,8 @@ module _ (unit : UnitTree) (names : HasNames (program_of unit)) where
   below : (i : ℕ) (o : Object) → slice_get (objects_of unit) i ≡ Some o → frame_number unit i < length rows
   below i o at = let own = row_of i o at in slice_get_within rows (frame_number unit i) own.row own.at
 
-  one_name : (i j : ℕ) (o p : Object) → slice_get (objects_of unit) i ≡ Some o → slice_get (objects_of unit) j ≡ Some p → name_at P i ≡ name_at P j → i ≡ j
+  one_name : (i j : ℕ) (o p : Object) → slice_get (objects_of unit) i ≡ Some o → slice_get (objects_of unit) j ≡ Some p
+      → name_at P i ≡ name_at P j → i ≡ j
   one_name i j o p at_i at_j e =
       by_test (ltb i j)
       (λ low. absurd (names_differ_at P names i j o p at_i at_j (ltb-true i j low) e))
@@ -239,7 +247,8 @@ module _ (unit : UnitTree) (names : HasNames (program_of unit)) where
       let one : Some r.row ≡ Some s.row = sym r.at ∙ ap (λ (n : ℕ). slice_get rows n) e ∙ s.at in
       one_name i j o p at at_too (sym r.named ∙ ap (λ (x : FrameRow). x.name) (same_Some r.row s.row one) ∙ s.named)))
 
-  any_of : (test : ℕ → Bool) (start count i : ℕ) → i < count → test (start + i) ≡ true → list_any test (range_with_len start count) ≡ true
+  any_of : (test : ℕ → Bool) (start count i : ℕ) → i < count → test (start + i) ≡ true
+      → list_any test (range_with_len start count) ≡ true
   any_of test start zero i low is = absurd (omega (arith, low))
   any_of test start (suc count) zero low is =
       ap (λ (b : Bool). b || list_any test (range_with_len (start + 1) count)) (ap test (let e : start ≡ start + 0 = omega arith in e) ∙ is)

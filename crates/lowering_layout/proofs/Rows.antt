@@ -45,7 +45,8 @@ pub record IsPlaced (frames : List Allocation) (name : List ℕ) (p : ℕ) : Typ
   pub at : slice_get frames p ≡ Some frame
   pub named : frame.name ≡ name
 
-pub placed_at : (frames : List Allocation) (name : List ℕ) (p : ℕ) → frame_place frames name ≡ Some p → IsPlaced frames name p
+pub placed_at : (frames : List Allocation) (name : List ℕ) (p : ℕ) → frame_place frames name ≡ Some p
+    → IsPlaced frames name p
 placed_at [] name p is = absurd (none-some p is)
 placed_at (a ∷ others) name p is =
     by_test (bytes_eq a.name name)
@@ -54,7 +55,8 @@ placed_at (a ∷ others) name p is =
     subst (λ (n : ℕ). IsPlaced (a ∷ others) name n) first (record { frame = a; at = refl; named = same_bytes a.name name same }))
     (λ other. further (frame_place others name) (λ q known. placed_at others name q known) (sym (ap (λ (b : Bool). if b then Some 0 else option_map (λ place. place + 1) (frame_place others name)) other) ∙ is))
   where
-    further : (found : Option ℕ) → ((q : ℕ) → found ≡ Some q → IsPlaced others name q) → option_map (λ place. place + 1) found ≡ Some p → IsPlaced (a ∷ others) name p
+    further : (found : Option ℕ) → ((q : ℕ) → found ≡ Some q → IsPlaced others name q)
+        → option_map (λ place. place + 1) found ≡ Some p → IsPlaced (a ∷ others) name p
     further None later is = absurd (none-some p is)
     further (Some q) later is =
         let rest = later q refl in
@@ -68,7 +70,8 @@ none_of (Some q) is = absurd (none-some (q + 1) (sym is))
 not_both : false ≡ true → ⊥
 not_both is = cc
 
-none_at : (frames : List Allocation) (name : List ℕ) → frame_place frames name ≡ None → (i : ℕ) (a : Allocation) → slice_get frames i ≡ Some a → a.name ≢ name
+none_at : (frames : List Allocation) (name : List ℕ) → frame_place frames name ≡ None → (i : ℕ) (a : Allocation)
+    → slice_get frames i ≡ Some a → a.name ≢ name
 none_at [] name is i a at e = none-some a at
 none_at (b ∷ bs) name is zero a at e =
     by_test (bytes_eq b.name name)
@@ -79,7 +82,8 @@ none_at (b ∷ bs) name is (suc i) a at e =
     (λ same. none-some 0 (sym is ∙ ap (λ (t : Bool). if t then Some 0 else option_map (λ place. place + 1) (frame_place bs name)) same))
     (λ other. none_at bs name (none_of (frame_place bs name) (sym (ap (λ (t : Bool). if t then Some 0 else option_map (λ place. place + 1) (frame_place bs name)) other) ∙ is)) i a at e)
 
-pub not_placed : (frames : List Allocation) (name : List ℕ) → frame_place frames name ≡ None → (a : Allocation) → Contains frames a → a.name ≢ name
+pub not_placed : (frames : List Allocation) (name : List ℕ) → frame_place frames name ≡ None → (a : Allocation)
+    → Contains frames a → a.name ≢ name
 not_placed frames name is a c e = none_at frames name is c.0 a (member_at frames a c) e
 
 -- ---- the first row of an owner and a name
@@ -90,22 +94,26 @@ pub record IsFound (rows : List FrameRow) (owner : Option ℕ) (name : List ℕ)
   pub owned : row.owner ≡ owner
   pub named : row.name ≡ name
 
-row_first : (owner : Option ℕ) (name : List ℕ) (r : FrameRow) (rs : List FrameRow) → is_row_of owner name r ≡ true → IsFound (r ∷ rs) owner name (row_number owner name (r ∷ rs))
+row_first : (owner : Option ℕ) (name : List ℕ) (r : FrameRow) (rs : List FrameRow) → is_row_of owner name r ≡ true
+    → IsFound (r ∷ rs) owner name (row_number owner name (r ∷ rs))
 row_first owner name r rs first =
     let parts = and_parts (same_owner r.owner owner) (bytes_eq r.name name) first in
     subst (λ (b : Bool). IsFound (r ∷ rs) owner name (if b then 0 else suc (row_number owner name rs))) (sym first)
     (record { row = r; at = refl; owned = one_owner r.owner owner parts.0; named = same_bytes r.name name parts.1 })
 
-row_later : (owner : Option ℕ) (name : List ℕ) (r : FrameRow) (rs : List FrameRow) → is_row_of owner name r ≡ false → IsFound rs owner name (row_number owner name rs) → IsFound (r ∷ rs) owner name (row_number owner name (r ∷ rs))
+row_later : (owner : Option ℕ) (name : List ℕ) (r : FrameRow) (rs : List FrameRow) → is_row_of owner name r ≡ false
+    → IsFound rs owner name (row_number owner name rs) → IsFound (r ∷ rs) owner name (row_number owner name (r ∷ rs))
 row_later owner name r rs other rest =
     subst (λ (b : Bool). IsFound (r ∷ rs) owner name (if b then 0 else suc (row_number owner name rs))) (sym other)
     (record { row = rest.row; at = rest.at; owned = rest.owned; named = rest.named })
 
-is_own : (owner : Option ℕ) (name : List ℕ) (r : FrameRow) → r.owner ≡ owner → r.name ≡ name → is_row_of owner name r ≡ true
+is_own : (owner : Option ℕ) (name : List ℕ) (r : FrameRow) → r.owner ≡ owner → r.name ≡ name
+    → is_row_of owner name r ≡ true
 is_own owner name r owned named =
     and_from (same_owner r.owner owner) (bytes_eq r.name name) (subst (λ (x : Option ℕ). same_owner r.owner x ≡ true) owned (owner_itself r.owner)) (own_bytes r.name name named)
 
-pub found_row : (owner : Option ℕ) (name : List ℕ) (rows : List FrameRow) (i : ℕ) (row : FrameRow) → slice_get rows i ≡ Some row → row.owner ≡ owner → row.name ≡ name
+pub found_row : (owner : Option ℕ) (name : List ℕ) (rows : List FrameRow) (i : ℕ) (row : FrameRow)
+    → slice_get rows i ≡ Some row → row.owner ≡ owner → row.name ≡ name
     → IsFound rows owner name (row_number owner name rows)
 found_row owner name [] i row at owned named = absurd (none-some row at)
 found_row owner name (r ∷ rs) zero row at owned named =
@@ -154,7 +162,8 @@ of_image (r ∷ rs) apart = (each_of_image (DifferInName (frame_in r)) frame_in 
 pub rows_apart : (whole : WholeProgram) → Apart DifferInName (frames_of whole) → Apart RowsDiffer (frame_rows whole)
 rows_apart whole apart = of_image (frame_rows whole) (subst (λ (xs : List Allocation). Apart DifferInName xs) (sym (all_rows whole)) apart)
 
-pub one_number : (rows : List FrameRow) (i j : ℕ) (r s : FrameRow) → Apart RowsDiffer rows → slice_get rows i ≡ Some r → slice_get rows j ≡ Some s → r.name ≡ s.name → i ≡ j
+pub one_number : (rows : List FrameRow) (i j : ℕ) (r s : FrameRow) → Apart RowsDiffer rows → slice_get rows i ≡ Some r
+    → slice_get rows j ≡ Some s → r.name ≡ s.name → i ≡ j
 one_number rows i j r s apart at_i at_j same =
     by_test (ltb i j)
     (λ low. absurd (apart_at RowsDiffer rows i j r s at_i at_j (ltb-true i j low) apart same))
@@ -177,12 +186,14 @@ rows_count : (owner : Option ℕ) (frames : List Allocation) → length (rows_of
 rows_count owner [] = refl
 rows_count owner (a ∷ others) = ap suc (rows_count owner others)
 
-row_at : (owner : Option ℕ) (frames : List Allocation) (i : ℕ) (a : Allocation) → slice_get frames i ≡ Some a → slice_get (rows_of owner frames) i ≡ Some (row_for owner a)
+row_at : (owner : Option ℕ) (frames : List Allocation) (i : ℕ) (a : Allocation) → slice_get frames i ≡ Some a
+    → slice_get (rows_of owner frames) i ≡ Some (row_for owner a)
 row_at owner [] i a at = absurd (none-some a at)
 row_at owner (b ∷ bs) zero a at = ap (λ (x : Option Allocation). option_map (row_for owner) x) at
 row_at owner (b ∷ bs) (suc i) a at = row_at owner bs i a at
 
-past_rows : (owner : Option ℕ) (frames : List Allocation) (rest : List FrameRow) (i : ℕ) → slice_get (rows_of owner frames ++ rest) (length frames + i) ≡ slice_get rest i
+past_rows : (owner : Option ℕ) (frames : List Allocation) (rest : List FrameRow) (i : ℕ)
+    → slice_get (rows_of owner frames ++ rest) (length frames + i) ≡ slice_get rest i
 past_rows owner frames rest i =
     ap (λ (n : ℕ). slice_get (rows_of owner frames ++ rest) (n + i)) (sym (rows_count owner frames)) ∙ at_right (rows_of owner frames) rest i
 
@@ -194,7 +205,8 @@ past_function k g gs n j =
     ∙ past_rows (Some k) g.args (rows_of (Some k) g.decls ++ rows_from (suc k) gs) (length g.decls + (n + j))
     ∙ past_rows (Some k) g.decls (rows_from (suc k) gs) (n + j)
 
-arg_row : (k : ℕ) (funcs : List Function) (f : ℕ) (func : Function) (j : ℕ) (a : Allocation) → slice_get funcs f ≡ Some func → slice_get func.args j ≡ Some a
+arg_row : (k : ℕ) (funcs : List Function) (f : ℕ) (func : Function) (j : ℕ) (a : Allocation)
+    → slice_get funcs f ≡ Some func → slice_get func.args j ≡ Some a
     → slice_get (rows_from k funcs) (frames_before funcs f + j) ≡ Some (row_for (Some (k + f)) a)
 arg_row k [] f func j a at at_arg = absurd (none-some func at)
 arg_row k (g ∷ gs) zero func j a at at_arg =
@@ -208,7 +220,8 @@ arg_row k (g ∷ gs) (suc f) func j a at at_arg =
     ∙ arg_row (suc k) gs f func j a at at_arg
     ∙ ap (λ (n : ℕ). Some (row_for (Some n) a)) (let e : suc k + f ≡ k + suc f = omega arith in e)
 
-decl_row : (k : ℕ) (funcs : List Function) (f : ℕ) (func : Function) (j : ℕ) (a : Allocation) → slice_get funcs f ≡ Some func → slice_get func.decls j ≡ Some a
+decl_row : (k : ℕ) (funcs : List Function) (f : ℕ) (func : Function) (j : ℕ) (a : Allocation)
+    → slice_get funcs f ≡ Some func → slice_get func.decls j ≡ Some a
     → slice_get (rows_from k funcs) (frames_before funcs f + (length func.args + j)) ≡ Some (row_for (Some (k + f)) a)
 decl_row k [] f func j a at at_decl = absurd (none-some func at)
 decl_row k (g ∷ gs) zero func j a at at_decl =
@@ -224,10 +237,12 @@ decl_row k (g ∷ gs) (suc f) func j a at at_decl =
     ∙ ap (λ (n : ℕ). Some (row_for (Some n) a)) (let e : suc k + f ≡ k + suc f = omega arith in e)
 
 module _ (whole : WholeProgram) where
-  pub global_at : (j : ℕ) (a : Allocation) → slice_get whole.decls j ≡ Some a → slice_get (frame_rows whole) j ≡ Some (row_for None a)
+  pub global_at : (j : ℕ) (a : Allocation) → slice_get whole.decls j ≡ Some a
+      → slice_get (frame_rows whole) j ≡ Some (row_for None a)
   global_at j a at = at_left (rows_of None whole.decls) (rows_from 0 whole.funcs) j (row_for None a) (row_at None whole.decls j a at)
 
-  pub arg_at : (f : ℕ) (func : Function) (j : ℕ) (a : Allocation) → slice_get whole.funcs f ≡ Some func → slice_get func.args j ≡ Some a
+  pub arg_at : (f : ℕ) (func : Function) (j : ℕ) (a : Allocation) → slice_get whole.funcs f ≡ Some func
+      → slice_get func.args j ≡ Some a
       → slice_get (frame_rows whole) (first_frame whole f + j) ≡ Some (row_for (Some f) a)
   arg_at f func j a at at_arg =
       ap (λ (n : ℕ). slice_get (frame_rows whole) n) (let e : (length whole.decls + frames_before whole.funcs f) + j ≡ length whole.decls + (frames_before whole.funcs f + j) = omega arith in e)
@@ -235,7 +250,8 @@ module _ (whole : WholeProgram) where
       ∙ arg_row 0 whole.funcs f func j a at at_arg
       ∙ ap (λ (n : ℕ). Some (row_for (Some n) a)) (let e : 0 + f ≡ f = omega arith in e)
 
-  pub decl_at : (f : ℕ) (func : Function) (j : ℕ) (a : Allocation) → slice_get whole.funcs f ≡ Some func → slice_get func.decls j ≡ Some a
+  pub decl_at : (f : ℕ) (func : Function) (j : ℕ) (a : Allocation) → slice_get whole.funcs f ≡ Some func
+      → slice_get func.decls j ≡ Some a
       → slice_get (frame_rows whole) ((first_frame whole f + length func.args) + j) ≡ Some (row_for (Some f) a)
   decl_at f func j a at at_decl =
       ap (λ (n : ℕ). slice_get (frame_rows whole) n)

@@ -49,7 +49,8 @@ module _ (unit : UnitTree) (names : HasNames (program_of unit)) where
       view.decls.known)
 
   -- those of further functions are later
-  later_still : (k : ℕ) (before rest : List Object) (frames : List Allocation) → EachOf (IsLater (suc k) rest) frames → EachOf (IsLater k (before ++ rest)) frames
+  later_still : (k : ℕ) (before rest : List Object) (frames : List Allocation) → EachOf (IsLater (suc k) rest) frames
+      → EachOf (IsLater k (before ++ rest)) frames
   later_still k before rest frames h = each_when (IsLater (suc k) rest) (IsLater k (before ++ rest)) frames (λ a is. one a is) h
     where
       one : (a : Allocation) → IsLater (suc k) rest a → IsLater k (before ++ rest) a
@@ -58,7 +59,8 @@ module _ (unit : UnitTree) (names : HasNames (program_of unit)) where
           (wider (whole unit names) g 0 count 0 count rest (before ++ rest) a (omega arith) (omega arith)
           (λ o c. Contains-append_right before rest o c) is)
 
-  own_before_later : (k : ℕ) (function : Function) (rest : List Object) (xs ys : List Allocation) → Across (OfOtherFrames (whole unit names) names) (own_objects unit.words k function) rest
+  own_before_later : (k : ℕ) (function : Function) (rest : List Object) (xs ys : List Allocation)
+      → Across (OfOtherFrames (whole unit names) names) (own_objects unit.words k function) rest
       → EachOf (IsFrameOf (whole unit names) k 0 (calls_in_all (whole unit names) function.body) (own_objects unit.words k function)) xs → EachOf (IsLater (suc k) rest) ys → Across DifferInName xs ys
   own_before_later k function rest xs ys across known laters =
       each_when (IsFrameOf (whole unit names) k 0 (calls_in_all (whole unit names) function.body) (own_objects unit.words k function)) (λ (a : Allocation). EachOf (DifferInName a) ys) xs
@@ -81,7 +83,8 @@ module _ (unit : UnitTree) (names : HasNames (program_of unit)) where
       (all_wider (whole unit names) k 0 (0 + calls) 0 calls locals (params ++ locals) (all_frames_in (whole unit names) k 0 function.body)
       (omega arith) (omega arith) (λ o c. Contains-append_right params locals o c) view.decls.known)
 
-  own_apart : (k : ℕ) (function : Function) (view : View (whole unit names) (globals unit names) k function) → Apart DifferInName (own_frames (lowered_function (whole unit names) k function))
+  own_apart : (k : ℕ) (function : Function) (view : View (whole unit names) (globals unit names) k function)
+      → Apart DifferInName (own_frames (lowered_function (whole unit names) k function))
   own_apart k function view = apart_joined DifferInName (parameter_frames (whole unit names) function.parameters) (all_frames_in (whole unit names) k 0 function.body) view.args.apart view.decls.apart view.args_decls
 
   functions_apart : (k : ℕ) (fs : List Function)
@@ -101,12 +104,14 @@ module _ (unit : UnitTree) (names : HasNames (program_of unit)) where
         apart_joined DifferInName here others (own_apart k function view) further.1 (own_before_later k function rest here others parts.across (own_known k function view) further.0),
       )
 
-  globals_before : (frames : List Allocation) → EachOf (IsLater 0 (owned unit names)) frames → Across DifferInName (global_frames (whole unit names)) frames
+  globals_before : (frames : List Allocation) → EachOf (IsLater 0 (owned unit names)) frames
+      → Across DifferInName (global_frames (whole unit names)) frames
   globals_before frames laters =
       each_when (IsFrameOf (whole unit names) 0 0 0 (globals unit names)) (λ (a : Allocation). EachOf (DifferInName a) frames) (global_frames (whole unit names))
       (λ a is. each_when (IsLater 0 (owned unit names)) (DifferInName a) frames (λ b is'. differ a is b is') laters) (globals_part unit names 0).known
     where
-      differ : (a : Allocation) → IsFrameOf (whole unit names) 0 0 0 (globals unit names) a → (b : Allocation) → IsLater 0 (owned unit names) b → DifferInName a b
+      differ : (a : Allocation) → IsFrameOf (whole unit names) 0 0 0 (globals unit names) a → (b : Allocation)
+          → IsLater 0 (owned unit names) b → DifferInName a b
       differ a is b (later g count low is') = frames_differ (whole unit names) names 0 g 0 0 0 count (globals unit names) (owned unit names) a b (objects_apart unit names).across (λ l same from to from' to'. absurd (omega (arith, to))) is is'
 
   -- no two frames of the whole program have one name

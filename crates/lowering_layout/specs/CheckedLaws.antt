@@ -63,7 +63,8 @@ module _ (words : List Word) where
   owned_below : (f count : ℕ) (os : List Object) → f < count → EachOf (OwnedBy words f) os → EachOf (IsOwned count) os
   owned_below f count os low own = each_when (OwnedBy words f) (IsOwned count) os (λ o is g also. let same = same_Some f g (sym is ∙ also) in omega (arith, low, same)) own
 
-  owned_among : (k count : ℕ) (file : File) (xs : List ExternalTree) → k + length (functions_in file xs) ≤ count → EachOf (IsOwned count) (owned_in words k xs)
+  owned_among : (k count : ℕ) (file : File) (xs : List ExternalTree) → k + length (functions_in file xs) ≤ count
+      → EachOf (IsOwned count) (owned_in words k xs)
   owned_among k count file [] low = tt
   owned_among k count file (Declaration first o ds ∷ xs) low = owned_among k count (external_after file (Declaration first o ds)) xs low
   owned_among k count file (Definition first o name params body ∷ xs) low =
@@ -77,12 +78,14 @@ module _ (words : List Word) where
 
   -- ---- globals
 
-  object_global : (kind : Integer) (name : ℕ) (shape : ShapeTree) → EachOf (IsGlobal words) (global_object words kind name shape)
+  object_global : (kind : Integer) (name : ℕ) (shape : ShapeTree)
+      → EachOf (IsGlobal words) (global_object words kind name shape)
   object_global kind name (GlobalInteger first) = (refl, tt)
   object_global kind name (GlobalArray size firsts) = (refl, tt)
   object_global kind name (FunctionOf params) = tt
 
-  declared_global : (kind : Integer) (ds : List DeclaratorTree) → EachOf (IsGlobal words) (globals_declared words kind ds)
+  declared_global : (kind : Integer) (ds : List DeclaratorTree)
+      → EachOf (IsGlobal words) (globals_declared words kind ds)
   declared_global kind [] = tt
   declared_global kind (d ∷ ds) = each_joined (IsGlobal words) (global_object words kind d.name d.shape) (globals_declared words kind ds) (object_global kind d.name d.shape) (declared_global kind ds)
 
@@ -101,7 +104,8 @@ module _ (words : List Word) where
       (each_when (OwnedBy words k) (λ (o : Object). o.owner ≢ None) (all_locals_in words k (statements_of body)) (λ o is none. absurd (none-some k (sym none ∙ is))) (all_owned k (statements_of body)))
       (owned_owned (k + 1) xs))
 
-  new_before : (e : Entry) (scope : Scope) (token : ℕ) → IsNew words (e ∷ scope) token → (text_at words e.token ≢ text_at words token) × IsNew words scope token
+  new_before : (e : Entry) (scope : Scope) (token : ℕ) → IsNew words (e ∷ scope) token
+      → (text_at words e.token ≢ text_at words token) × IsNew words scope token
   new_before e scope token new =
       by_test (bytes_eq (text_at words e.token) (text_at words token))
       (λ same. absurd (let bad : true ≡ false = sym (ap (λ (b : Bool). is_some (if b then Some e else named words token scope)) same) ∙ new in cc))
@@ -110,12 +114,15 @@ module _ (words : List Word) where
   abbrev DifferInText : Object → Object → Type 0
   DifferInText o p = text_at words o.token ≢ text_at words p.token
 
-  differs_from_object : (kind : Integer) (name : ℕ) (shape : ShapeTree) (p : Object) → text_at words name ≢ text_at words p.token → EachOf (λ (o : Object). DifferInText o p) (global_object words kind name shape)
+  differs_from_object : (kind : Integer) (name : ℕ) (shape : ShapeTree) (p : Object)
+      → text_at words name ≢ text_at words p.token
+      → EachOf (λ (o : Object). DifferInText o p) (global_object words kind name shape)
   differs_from_object kind name (GlobalInteger first) p other = (other, tt)
   differs_from_object kind name (GlobalArray size firsts) p other = (other, tt)
   differs_from_object kind name (FunctionOf params) p other = tt
 
-  before_declarators : (o : Outcome) (kind : Integer) (file : File) (ds : List DeclaratorTree) (p : Object) → IsNew words (with_declarators o file ds).scope p.token
+  before_declarators : (o : Outcome) (kind : Integer) (file : File) (ds : List DeclaratorTree) (p : Object)
+      → IsNew words (with_declarators o file ds).scope p.token
       → EachOf (λ (q : Object). DifferInText q p) (globals_declared words kind ds) × IsNew words file.scope p.token
   before_declarators o kind file [] p new = (tt, new)
   before_declarators o kind file (d ∷ ds) p new =
@@ -123,7 +130,8 @@ module _ (words : List Word) where
       let first = new_before (record { token = d.name; bound = global_bound o d.shape }) file.scope p.token rest.1 in
       (each_joined (λ (q : Object). DifferInText q p) (global_object words kind d.name d.shape) (globals_declared words kind ds) (differs_from_object kind d.name d.shape p first.0) rest.0, first.1)
 
-  across_turned : {A : Type 0} (R : A → A → Type 0) (xs ys : List A) → EachOf (λ y. EachOf (λ x. R x y) xs) ys → Across R xs ys
+  across_turned : {A : Type 0} (R : A → A → Type 0) (xs ys : List A) → EachOf (λ y. EachOf (λ x. R x y) xs) ys
+      → Across R xs ys
   across_turned R [] ys h = tt
   across_turned R (x ∷ xs) ys h = (each_when (λ y. EachOf (λ z. R z y) (x ∷ xs)) (R x) ys (λ y k. k.0) h, across_turned R xs ys (each_when (λ y. EachOf (λ z. R z y) (x ∷ xs)) (λ y. EachOf (λ z. R z y) xs) ys (λ y k. k.1) h))
 
@@ -139,7 +147,10 @@ module _ (words : List Word) where
   alone kind name (GlobalArray size firsts) = (tt, tt)
   alone kind name (FunctionOf params) = tt
 
-  declared_apart : (o : Outcome) (kind : Integer) (file : File) (ds : List DeclaratorTree) → DeclaratorsStand words o file ds → EachOf (NewAfter words file.scope) (globals_declared words kind ds) × Apart DifferInText (globals_declared words kind ds)
+  declared_apart : (o : Outcome) (kind : Integer) (file : File) (ds : List DeclaratorTree)
+      → DeclaratorsStand words o file ds
+      → EachOf (NewAfter words file.scope) (globals_declared words kind ds)
+      × Apart DifferInText (globals_declared words kind ds)
   declared_apart o kind file [] stands = (tt, tt)
   declared_apart o kind file (d ∷ ds) stands =
       let bound = global_bound o d.shape in
@@ -156,7 +167,8 @@ module _ (words : List Word) where
             (λ p h. differs_from_object kind d.name d.shape p h.0) before)),
       )
 
-  globals_apart : (defined : List ℕ) (file : File) (xs : List ExternalTree) → ExternalsStand words defined file xs → EachOf (NewAfter words file.scope) (globals_in words xs) × Apart DifferInText (globals_in words xs)
+  globals_apart : (defined : List ℕ) (file : File) (xs : List ExternalTree) → ExternalsStand words defined file xs
+      → EachOf (NewAfter words file.scope) (globals_in words xs) × Apart DifferInText (globals_in words xs)
   globals_apart defined file [] stands = (tt, tt)
   globals_apart defined file (Declaration first o ds ∷ xs) stands =
       let here = declared_apart o (element_of o) file ds stands.0 in
@@ -176,7 +188,8 @@ module _ (words : List Word) where
       let rest = globals_apart defined further xs stands.1 in
       (each_when (NewAfter words further.scope) (NewAfter words file.scope) (globals_in words xs) (λ p new. (new_before _ file.scope p.token new).1) rest.0, rest.1)
 
-  all_apart : (gs os : List Object) → Apart DifferInText gs → EachOf (λ (o : Object). o.owner ≢ None) os → Apart (DifferAsGlobals words) (gs ++ os)
+  all_apart : (gs os : List Object) → Apart DifferInText gs → EachOf (λ (o : Object). o.owner ≢ None) os
+      → Apart (DifferAsGlobals words) (gs ++ os)
   all_apart gs os apart own =
       apart_joined (DifferAsGlobals words) gs os (apart_when DifferInText (DifferAsGlobals words) gs (λ o p h a b. h) apart) (owned_apart os own)
       (each_of_all (λ (o : Object). EachOf (DifferAsGlobals words o) os) gs (λ o. each_when (λ (p : Object). p.owner ≢ None) (DifferAsGlobals words o) os (λ p h a b. absurd (h b)) own))
@@ -191,7 +204,8 @@ module _ (words : List Word) where
   same_made o file [] = refl
   same_made o file (d ∷ ds) = same_made o (with_global file d.name (global_bound o d.shape)) ds
 
-  functions_apart : (defined : List ℕ) (file : File) (xs : List ExternalTree) → ExternalsStand words defined file xs → EachOf (NotMade words file.made) (functions_in file xs) × Apart (OfOtherNames words) (functions_in file xs)
+  functions_apart : (defined : List ℕ) (file : File) (xs : List ExternalTree) → ExternalsStand words defined file xs
+      → EachOf (NotMade words file.made) (functions_in file xs) × Apart (OfOtherNames words) (functions_in file xs)
   functions_apart defined file [] stands = (tt, tt)
   functions_apart defined file (Declaration first o ds ∷ xs) stands =
       let further = external_after file (Declaration first o ds) in
@@ -213,7 +227,8 @@ module _ (words : List Word) where
 abbrev start : File
 start = record { scope = []; made = [] }
 
-pub program_has_names : (unit : UnitTree) (root ranks : List ℕ) → IsProgram unit root ranks → NamesAreSpelled unit → HasNames (program_of unit)
+pub program_has_names : (unit : UnitTree) (root ranks : List ℕ) → IsProgram unit root ranks → NamesAreSpelled unit
+    → HasNames (program_of unit)
 program_has_names unit root ranks program spelled =
     let words = unit.words in
     let stands = unit_stands unit program.no_faults in

@@ -71,7 +71,8 @@ one_types (p ∷ ps) (q ∷ qs) same =
 -- ---- entries of scopes
 
 -- what is found is an entry, under the same text
-pub named_entry : (P : Entry → Type 0) (words : List Word) (scope : Scope) (token : ℕ) (e : Entry) → EachEntry P scope → named words token scope ≡ Some e → P e × (text_at words e.token ≡ text_at words token)
+pub named_entry : (P : Entry → Type 0) (words : List Word) (scope : Scope) (token : ℕ) (e : Entry) → EachEntry P scope
+    → named words token scope ≡ Some e → P e × (text_at words e.token ≡ text_at words token)
 named_entry P words [] token e each at = absurd (none-some e at)
 named_entry P words (f ∷ fs) token e each at =
     by_test (bytes_eq (text_at words f.token) (text_at words token))
@@ -81,11 +82,13 @@ named_entry P words (f ∷ fs) token e each at =
     ))
     (λ t. named_entry P words fs token e each.1 (sym (ap (λ (b : Bool). if b then Some f else named words token fs) t) ∙ at))
 
-first_found : (P : Entry → Type 0) (x further : Option Entry) (e : Entry) → ((f : Entry) → x ≡ Some f → P f) → ((f : Entry) → further ≡ Some f → P f) → or_further x further ≡ Some e → P e
+first_found : (P : Entry → Type 0) (x further : Option Entry) (e : Entry) → ((f : Entry) → x ≡ Some f → P f)
+    → ((f : Entry) → further ≡ Some f → P f) → or_further x further ≡ Some e → P e
 first_found P None further e here there at = there e at
 first_found P (Some f) further e here there at = here e at
 
-pub found_entry : (P : Entry → Type 0) (words : List Word) (scopes : List Scope) (token : ℕ) (e : Entry) → EachScope P scopes → look_up words scopes token ≡ Some e → P e × (text_at words e.token ≡ text_at words token)
+pub found_entry : (P : Entry → Type 0) (words : List Word) (scopes : List Scope) (token : ℕ) (e : Entry)
+    → EachScope P scopes → look_up words scopes token ≡ Some e → P e × (text_at words e.token ≡ text_at words token)
 found_entry P words [] token e each at = absurd (none-some e at)
 found_entry P words (scope ∷ scopes) token e each at =
     first_found (λ (f : Entry). P f × (text_at words f.token ≡ text_at words token)) (named words token scope) (look_up words scopes token) e
@@ -104,12 +107,14 @@ types_in (Array i) = []
 types_in (Function o ps) = ps
 
 -- a name is looked up by its text
-same_named : (words : List Word) (scope : Scope) (token other : ℕ) → text_at words token ≡ text_at words other → named words token scope ≡ named words other scope
+same_named : (words : List Word) (scope : Scope) (token other : ℕ) → text_at words token ≡ text_at words other
+    → named words token scope ≡ named words other scope
 same_named words [] token other same = refl
 same_named words (e ∷ es) token other same =
     ap₂ (λ (text : List ℕ) (further : Option Entry). if bytes_eq (text_at words e.token) text then Some e else further) same (same_named words es token other same)
 
-one_function : (words : List Word) (scope : Scope) (token other : ℕ) (o p : Outcome) (ps qs : List Scalar) → text_at words token ≡ text_at words other
+one_function : (words : List Word) (scope : Scope) (token other : ℕ) (o p : Outcome) (ps qs : List Scalar)
+    → text_at words token ≡ text_at words other
     → HasFunction words scope token o ps → HasFunction words scope other p qs → (o ≡ p) × (ps ≡ qs)
 one_function words scope token other o p ps qs same a b =
     let entries : a.entry ≡ b.entry = same_Some a.entry b.entry (sym a.found ∙ same_named words scope token other same ∙ b.found) in
@@ -121,7 +126,8 @@ module _ (words : List Word) where
   abbrev with_entry : ℕ → Bound → Scope → Scope
   with_entry name bound scope = record { token = name; bound = bound } ∷ scope
 
-  newest : (name : ℕ) (bound : Bound) (o : Outcome) (ps : List Scalar) (scope : Scope) → bound ≡ Function o ps → HasFunction words (with_entry name bound scope) name o ps
+  newest : (name : ℕ) (bound : Bound) (o : Outcome) (ps : List Scalar) (scope : Scope) → bound ≡ Function o ps
+      → HasFunction words (with_entry name bound scope) name o ps
   newest name bound o ps scope is =
       let e : Entry = record { token = name; bound = bound } in
       record { entry = e; found = ap (λ (b : Bool). if b then Some e else named words name scope) ((bytes_eq-Decides (text_at words name) (text_at words name)).1 refl); is = is }
@@ -130,7 +136,8 @@ module _ (words : List Word) where
   abbrev Keeps : Scope → ℕ → Bound → Type 0
   Keeps scope name bound = (token : ℕ) (o : Outcome) (ps : List Scalar) → HasFunction words scope token o ps → text_at words name ≡ text_at words token → bound ≡ Function o ps
 
-  kept_by_entry : (scope : Scope) (name : ℕ) (bound : Bound) → Keeps scope name bound → (token : ℕ) (o : Outcome) (ps : List Scalar)
+  kept_by_entry : (scope : Scope) (name : ℕ) (bound : Bound) → Keeps scope name bound
+      → (token : ℕ) (o : Outcome) (ps : List Scalar)
       → HasFunction words scope token o ps → HasFunction words (with_entry name bound scope) token o ps
   kept_by_entry scope name bound keeps token o ps has =
       let e : Entry = record { token = name; bound = bound } in
@@ -143,7 +150,8 @@ module _ (words : List Word) where
       (λ t. record { entry = has.entry; found = ap (λ (b : Bool). if b then Some e else named words token scope) t ∙ has.found; is = has.is })
 
   -- the entry that a name has, where it has one
-  agreeing : (o p : Outcome) (params : List Parameter) (ps : List Scalar) (x : Option Entry) (e : Entry) → AgreesWith o params x → x ≡ Some e → e.bound ≡ Function p ps → Function o (types_of params) ≡ Function p ps
+  agreeing : (o p : Outcome) (params : List Parameter) (ps : List Scalar) (x : Option Entry) (e : Entry)
+      → AgreesWith o params x → x ≡ Some e → e.bound ≡ Function p ps → Function o (types_of params) ≡ Function p ps
   agreeing o p params ps None e agrees at is = absurd (none-some e at)
   agreeing o p params ps (Some f) e agrees at is =
       let bound : f.bound ≡ Function p ps = ap (λ (x : Entry). x.bound) (same_Some f e at) ∙ is in
@@ -151,27 +159,32 @@ module _ (words : List Word) where
       let parts : (same_outcome p o ≡ true) × (same_types ps (types_of params) ≡ true) = both (same_outcome p o) (same_types ps (types_of params)) same in
       ap₂ (λ (x : Outcome) (xs : List Scalar). Function x xs) (sym (one_outcome p o parts.0)) (sym (one_types ps (types_of params) parts.1))
 
-  keeps_function : (scope : Scope) (name : ℕ) (o : Outcome) (params : List Parameter) → AgreesWith o params (named words name scope) → Keeps scope name (function_of o params)
+  keeps_function : (scope : Scope) (name : ℕ) (o : Outcome) (params : List Parameter)
+      → AgreesWith o params (named words name scope) → Keeps scope name (function_of o params)
   keeps_function scope name o params agrees token p ps has same =
       agreeing o p params ps (named words name scope) has.entry agrees (same_named words scope name token same ∙ has.found) has.is
 
-  keeps_object : (scope : Scope) (name : ℕ) (bound : Bound) → is_some (named words name scope) ≡ false → Keeps scope name bound
+  keeps_object : (scope : Scope) (name : ℕ) (bound : Bound) → is_some (named words name scope) ≡ false
+      → Keeps scope name bound
   keeps_object scope name bound new token o ps has same =
       absurd (false≢true (sym new ∙ ap (λ (x : Option Entry). is_some x) (same_named words scope name token same ∙ has.found)))
 
-  keeps_shape : (scope : Scope) (name : ℕ) (o : Outcome) (shape : ShapeTree) → ShapeStands words scope o name shape → Keeps scope name (global_bound o shape)
+  keeps_shape : (scope : Scope) (name : ℕ) (o : Outcome) (shape : ShapeTree) → ShapeStands words scope o name shape
+      → Keeps scope name (global_bound o shape)
   keeps_shape scope name o (GlobalInteger c) stands = keeps_object scope name (global_bound o (GlobalInteger c)) stands
   keeps_shape scope name o (GlobalArray size firsts) stands = keeps_object scope name (global_bound o (GlobalArray size firsts)) stands.0
   keeps_shape scope name o (FunctionOf params) stands = keeps_function scope name o params stands.2
 
-  kept_by_declarators : (o : Outcome) (file : File) (ds : List DeclaratorTree) → DeclaratorsStand words o file ds → (token : ℕ) (p : Outcome) (ps : List Scalar)
+  kept_by_declarators : (o : Outcome) (file : File) (ds : List DeclaratorTree) → DeclaratorsStand words o file ds
+      → (token : ℕ) (p : Outcome) (ps : List Scalar)
       → HasFunction words file.scope token p ps → HasFunction words (with_declarators o file ds).scope token p ps
   kept_by_declarators o file [] stands token p ps has = has
   kept_by_declarators o file (d ∷ ds) stands token p ps has =
       kept_by_declarators o (with_global file d.name (global_bound o d.shape)) ds stands.1 token p ps
       (kept_by_entry file.scope d.name (global_bound o d.shape) (keeps_shape file.scope d.name o d.shape stands.0) token p ps has)
 
-  kept_to_last : (defined : List ℕ) (file : File) (xs : List ExternalTree) → ExternalsStand words defined file xs → (token : ℕ) (p : Outcome) (ps : List Scalar)
+  kept_to_last : (defined : List ℕ) (file : File) (xs : List ExternalTree) → ExternalsStand words defined file xs
+      → (token : ℕ) (p : Outcome) (ps : List Scalar)
       → HasFunction words file.scope token p ps → HasFunction words (last words file xs).scope token p ps
   kept_to_last defined file [] stands token p ps has = has
   kept_to_last defined file (Declaration first o ds ∷ xs) stands token p ps has =
@@ -181,7 +194,8 @@ module _ (words : List Word) where
       (kept_by_entry file.scope name (function_of o params) (keeps_function file.scope name o params stands.0.agrees) token p ps has)
 
   -- each function that is defined has its type at the end
-  defined_last : (defined : List ℕ) (file : File) (xs : List ExternalTree) → ExternalsStand words defined file xs → (i : ℕ) (function : meaning.Function)
+  defined_last : (defined : List ℕ) (file : File) (xs : List ExternalTree) → ExternalsStand words defined file xs
+      → (i : ℕ) (function : meaning.Function)
       → slice_get (functions_in file xs) i ≡ Some function → HasFunction words (last words file xs).scope function.name function.result (types_of function.parameters)
   defined_last defined file [] stands i function at = absurd (none-some function at)
   defined_last defined file (Declaration first o ds ∷ xs) stands i function at = defined_last defined (external_after file (Declaration first o ds)) xs stands.1 i function at
@@ -201,7 +215,8 @@ module _ (words : List Word) where
     abbrev ToLast : Scope → Type 0
     ToLast scope = (token : ℕ) (p : Outcome) (ps : List Scalar) → HasFunction words scope token p ps → HasFunction words end token p ps
 
-    declarators_in : (o : Outcome) (file : File) (ds : List DeclaratorTree) → DeclaratorsStand words o file ds → ToLast (with_declarators o file ds).scope
+    declarators_in : (o : Outcome) (file : File) (ds : List DeclaratorTree) → DeclaratorsStand words o file ds
+        → ToLast (with_declarators o file ds).scope
         → EachEntry InLast file.scope → EachEntry InLast (with_declarators o file ds).scope
     declarators_in o file [] stands to_last known = known
     declarators_in o file (d ∷ ds) stands to_last known =
@@ -209,15 +224,18 @@ module _ (words : List Word) where
         declarators_in o further ds stands.1 to_last
         ((λ p ps is. to_last d.name p ps (kept_by_declarators o further ds stands.1 d.name p ps (newest d.name (global_bound o d.shape) p ps file.scope is))), known)
 
-    parameter_in : (scope : Scope) (name : Option ℕ) (kind : Scalar) → EachEntry InLast scope → EachEntry InLast (with_parameter scope name kind)
+    parameter_in : (scope : Scope) (name : Option ℕ) (kind : Scalar) → EachEntry InLast scope
+        → EachEntry InLast (with_parameter scope name kind)
     parameter_in scope None kind known = known
     parameter_in scope (Some name) kind known = ((λ o ps is. absurd (false≢true (ap is_function is))), known)
 
-    parameters_in : (scope : Scope) (params : List Parameter) → EachEntry InLast scope → EachEntry InLast (with_parameters scope params)
+    parameters_in : (scope : Scope) (params : List Parameter) → EachEntry InLast scope
+        → EachEntry InLast (with_parameters scope params)
     parameters_in scope [] known = known
     parameters_in scope (p ∷ ps) known = parameters_in (with_parameter scope p.name p.kind) ps (parameter_in scope p.name p.kind known)
 
-    block_sees : (defined : List ℕ) (file : File) (xs : List ExternalTree) → ExternalsStand words defined file xs → (last words file xs).scope ≡ end → EachEntry InLast file.scope
+    block_sees : (defined : List ℕ) (file : File) (xs : List ExternalTree) → ExternalsStand words defined file xs
+        → (last words file xs).scope ≡ end → EachEntry InLast file.scope
         → (i : ℕ) (function : meaning.Function) → slice_get (functions_in file xs) i ≡ Some function → EachScope InLast function.scopes
     block_sees defined file [] stands is known i function at = absurd (none-some function at)
     block_sees defined file (Declaration first o ds ∷ xs) stands is known i function at =
@@ -237,15 +255,18 @@ module _ (words : List Word) where
 
 -- ---- entries and definitions
 
-each_entry_when : (P Q : Entry → Type 0) (scope : Scope) → ((e : Entry) → P e → Q e) → EachEntry P scope → EachEntry Q scope
+each_entry_when : (P Q : Entry → Type 0) (scope : Scope) → ((e : Entry) → P e → Q e) → EachEntry P scope
+    → EachEntry Q scope
 each_entry_when P Q [] f each = tt
 each_entry_when P Q (e ∷ es) f each = (f e each.0, each_entry_when P Q es f each.1)
 
-each_scope_when : (P Q : Entry → Type 0) (scopes : List Scope) → ((e : Entry) → P e → Q e) → EachScope P scopes → EachScope Q scopes
+each_scope_when : (P Q : Entry → Type 0) (scopes : List Scope) → ((e : Entry) → P e → Q e) → EachScope P scopes
+    → EachScope Q scopes
 each_scope_when P Q [] f each = tt
 each_scope_when P Q (scope ∷ scopes) f each = (each_entry_when P Q scope f each.0, each_scope_when P Q scopes f each.1)
 
-pub entries_agree : (unit : UnitTree) → UnitStands unit → (k : ℕ) (block : meaning.Function) → slice_get (functions_of unit) k ≡ Some block → EachScope (EntryAgrees unit) block.scopes
+pub entries_agree : (unit : UnitTree) → UnitStands unit → (k : ℕ) (block : meaning.Function)
+    → slice_get (functions_of unit) k ≡ Some block → EachScope (EntryAgrees unit) block.scopes
 entries_agree unit stands k block at =
     let defined : List ℕ = definitions unit.externals in
     let first : File = record { scope = []; made = [] } in

@@ -35,36 +35,44 @@ use Rattle.lowering_layout.specs.Frames.{AreObjects, AreApart}
 module _ (program : Program) (names : HasNames program) (f : ℕ) (low : f < length program.functions) where
   -- ---- frames of results
 
-  result_part : (o : Outcome) (lo : ℕ) → lo + calls_of_outcome o ≤ 10 ^ 64 → Part program f [] lo (calls_of_outcome o) (result_frames (call_name program f lo) o)
+  result_part : (o : Outcome) (lo : ℕ) → lo + calls_of_outcome o ≤ 10 ^ 64
+      → Part program f [] lo (calls_of_outcome o) (result_frames (call_name program f lo) o)
   result_part outcomes.Nothing lo most = nothing program f lo
   result_part (outcomes.Integer i) lo most = a_result program f lo _ low (omega (arith, most))
 
-  value_part : (value : ValueTree) (lo : ℕ) → lo + calls_in_value program value ≤ 10 ^ 64 → Part program f [] lo (calls_in_value program value) (value_frames program f lo value)
+  value_part : (value : ValueTree) (lo : ℕ) → lo + calls_in_value program value ≤ 10 ^ 64
+      → Part program f [] lo (calls_in_value program value) (value_frames program f lo value)
   value_part (OfExpression e) lo most = nothing program f lo
   value_part (OfCall call) lo most = result_part (result_of program call) lo most
 
-  first_part : (first : Option ValueTree) (lo : ℕ) → lo + calls_in_first program first ≤ 10 ^ 64 → Part program f [] lo (calls_in_first program first) (first_frames program f lo first)
+  first_part : (first : Option ValueTree) (lo : ℕ) → lo + calls_in_first program first ≤ 10 ^ 64
+      → Part program f [] lo (calls_in_first program first) (first_frames program f lo first)
   first_part None lo most = nothing program f lo
   first_part (Some value) lo most = value_part value lo most
 
-  effect_part : (effect : EffectTree) (lo : ℕ) → lo + calls_in_effect program effect ≤ 10 ^ 64 → Part program f [] lo (calls_in_effect program effect) (effect_frames program f lo effect)
+  effect_part : (effect : EffectTree) (lo : ℕ) → lo + calls_in_effect program effect ≤ 10 ^ 64
+      → Part program f [] lo (calls_in_effect program effect) (effect_frames program f lo effect)
   effect_part (Assigns to token value) lo most = value_part value lo most
   effect_part (Updates to op token e) lo most = nothing program f lo
   effect_part (Steps operand up token) lo most = nothing program f lo
   effect_part (Calls call) lo most = result_part (result_of program call) lo most
 
-  last_part : (last : Option EffectTree) (lo : ℕ) → lo + calls_if program last ≤ 10 ^ 64 → Part program f [] lo (calls_if program last) (last_frames program f lo last)
+  last_part : (last : Option EffectTree) (lo : ℕ) → lo + calls_if program last ≤ 10 ^ 64
+      → Part program f [] lo (calls_if program last) (last_frames program f lo last)
   last_part None lo most = nothing program f lo
   last_part (Some effect) lo most = effect_part effect lo most
 
-  shape_part : (shape : LocalShapeTree) (lo : ℕ) → lo + calls_in_shape program shape ≤ 10 ^ 64 → Part program f [] lo (calls_in_shape program shape) (shape_frames program f lo shape)
+  shape_part : (shape : LocalShapeTree) (lo : ℕ) → lo + calls_in_shape program shape ≤ 10 ^ 64
+      → Part program f [] lo (calls_in_shape program shape) (shape_frames program f lo shape)
   shape_part (LocalInteger first) lo most = first_part first lo most
   shape_part (LocalPointer first) lo most = first_part first lo most
   shape_part (LocalArray size firsts) lo most = nothing program f lo
 
   -- ---- frames of locals
 
-  locals_part : (kind : Integer) (locals : List LocalTree) (lo : ℕ) → lo + calls_in_locals program locals ≤ 10 ^ 64 → AreObjects program names f low (map (local_object program.words f kind) locals) → AreApart program names f low (map (local_object program.words f kind) locals)
+  locals_part : (kind : Integer) (locals : List LocalTree) (lo : ℕ) → lo + calls_in_locals program locals ≤ 10 ^ 64
+      → AreObjects program names f low (map (local_object program.words f kind) locals)
+      → AreApart program names f low (map (local_object program.words f kind) locals)
       → Part program f (map (local_object program.words f kind) locals) lo (calls_in_locals program locals) (locals_frames program f lo kind locals)
   locals_part kind [] lo most are apart = nothing program f lo
   locals_part kind (local ∷ locals) lo most are apart =
@@ -81,7 +89,9 @@ module _ (program : Program) (names : HasNames program) (f : ℕ) (low : f < len
   -- ---- frames of statements
 
   mutual
-    pub statement_part : (s : Statement) (lo : ℕ) → lo + calls_in program s ≤ 10 ^ 64 → AreObjects program names f low (locals_in program.words f s) → AreApart program names f low (locals_in program.words f s)
+    pub statement_part : (s : Statement) (lo : ℕ) → lo + calls_in program s ≤ 10 ^ 64
+        → AreObjects program names f low (locals_in program.words f s)
+        → AreApart program names f low (locals_in program.words f s)
         → Part program f (locals_in program.words f s) lo (calls_in program s) (frames_in program f lo s)
     statement_part (Empty token) lo most are apart = nothing program f lo
     statement_part (Declares first kind locals) lo most are apart = locals_part kind locals lo most are apart
@@ -117,7 +127,9 @@ module _ (program : Program) (names : HasNames program) (f : ℕ) (low : f < len
     statement_part (Returns token value) lo most are apart = first_part value lo most
     statement_part (Does effect) lo most are apart = effect_part effect lo most
 
-    pub statements_part : (ss : Statements) (lo : ℕ) → lo + calls_in_all program ss ≤ 10 ^ 64 → AreObjects program names f low (all_locals_in program.words f ss) → AreApart program names f low (all_locals_in program.words f ss)
+    pub statements_part : (ss : Statements) (lo : ℕ) → lo + calls_in_all program ss ≤ 10 ^ 64
+        → AreObjects program names f low (all_locals_in program.words f ss)
+        → AreApart program names f low (all_locals_in program.words f ss)
         → Part program f (all_locals_in program.words f ss) lo (calls_in_all program ss) (all_frames_in program f lo ss)
     statements_part Nothing lo most are apart = nothing program f lo
     statements_part (Then s rest) lo most are apart =
@@ -129,7 +141,9 @@ module _ (program : Program) (names : HasNames program) (f : ℕ) (low : f < len
 
   -- ---- frames of parameters
 
-  pub parameters_part : (params : List Parameter) → AreObjects program names f low (map (parameter_object f) params) → AreApart program names f low (map (parameter_object f) params) → Part program f (map (parameter_object f) params) 0 0 (parameter_frames program params)
+  pub parameters_part : (params : List Parameter) → AreObjects program names f low (map (parameter_object f) params)
+      → AreApart program names f low (map (parameter_object f) params)
+      → Part program f (map (parameter_object f) params) 0 0 (parameter_frames program params)
   parameters_part [] are apart = nothing program f 0
   parameters_part (p ∷ ps) are apart =
       joined program names f 0 0 0 0 (parameter_object f p ∷ []) (map (parameter_object f) ps) (parameter_frame program p ∷ []) (parameter_frames program ps) refl (apart.0, tt)

@@ -46,7 +46,8 @@ module _ {A : Type 0} where
   apart_when R S [] f h = tt
   apart_when R S (x ∷ xs) f h = (each_when (R x) (S x) xs (f x) h.0, apart_when R S xs f h.1)
 
-  pub apart_joined : (R : A → A → Type 0) (xs ys : List A) → Apart R xs → Apart R ys → Across R xs ys → Apart R (xs ++ ys)
+  pub apart_joined : (R : A → A → Type 0) (xs ys : List A) → Apart R xs → Apart R ys → Across R xs ys
+      → Apart R (xs ++ ys)
   apart_joined R [] ys h i c = i
   apart_joined R (x ∷ xs) ys h i c = (each_joined (R x) xs ys h.0 c.0, apart_joined R xs ys h.1 i c.1)
 
@@ -61,7 +62,8 @@ module _ {A : Type 0} where
   apart_pairs R [] h = λ i j d low within. absurd (omega (arith, within))
   apart_pairs R (x ∷ xs) h = AllPairs-cons R x xs (each_all (R x) xs h.0) (apart_pairs R xs h.1)
 
-  pub apart_at : (R : A → A → Type 0) (xs : List A) (i j : ℕ) (x y : A) → slice_get xs i ≡ Some x → slice_get xs j ≡ Some y → i < j → Apart R xs → R x y
+  pub apart_at : (R : A → A → Type 0) (xs : List A) (i j : ℕ) (x y : A) → slice_get xs i ≡ Some x
+      → slice_get xs j ≡ Some y → i < j → Apart R xs → R x y
   apart_at R [] i j x y at_i at_j low h = absurd (none-some x at_i)
   apart_at R (z ∷ zs) i zero x y at_i at_j low h = absurd (omega (arith, low))
   apart_at R (z ∷ zs) zero (suc j) x y at_i at_j low h = subst (λ w. R w y) (same_Some z x at_i) (each_at (R z) zs j y at_j h.0)

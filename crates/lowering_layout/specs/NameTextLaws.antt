@@ -92,7 +92,8 @@ module _ (program : Program) (names : HasNames program) where
       let digits = few_digits k few in
       within_is_name (function_name program f) (36 ∷ decimal k) (function_known program names f low) (omega (arith, digits)) (mark_byte 36 (omega arith) (omega arith), digit_bytes k (omega (arith, few)))
 
-  owned_is_name : (owner : Option ℕ) (t : List ℕ) (like : ℕ) → ((f : ℕ) → owner ≡ Some f → f < length program.functions) → IsIdentifier t → like < 256 → IsName (owned_name program owner t like)
+  owned_is_name : (owner : Option ℕ) (t : List ℕ) (like : ℕ) → ((f : ℕ) → owner ≡ Some f → f < length program.functions)
+      → IsIdentifier t → like < 256 → IsName (owned_name program owner t like)
   owned_is_name None t like own is few = identifier_is_name t is
   owned_is_name (Some f) t like own is few =
       let rest = further_short like few in

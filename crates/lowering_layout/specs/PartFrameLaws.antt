@@ -22,20 +22,27 @@ by_order i j low high = by_test (ltb i j) (λ t. low (ltb-true i j t)) (λ f. hi
 module _ (program : Program) where
   -- ---- more frames, objects and results
 
-  pub wider : (f lo hi lo' hi' : ℕ) (os os' : List Object) (frame : Allocation) → lo' ≤ lo → hi ≤ hi' → ((o : Object) → Contains os o → Contains os' o) → IsFrameOf program f lo hi os frame → IsFrameOf program f lo' hi' os' frame
+  pub wider : (f lo hi lo' hi' : ℕ) (os os' : List Object) (frame : Allocation) → lo' ≤ lo → hi ≤ hi'
+      → ((o : Object) → Contains os o → Contains os' o) → IsFrameOf program f lo hi os frame
+      → IsFrameOf program f lo' hi' os' frame
   wider f lo hi lo' hi' os os' frame low high more (of_object o c is name bits) = of_object o (more o c) is name bits
   wider f lo hi lo' hi' os os' frame low high more (of_result k from to function few name) = of_result k (omega (arith, low, from)) (omega (arith, high, to)) function few name
 
-  pub all_wider : (f lo hi lo' hi' : ℕ) (os os' : List Object) (frames : List Allocation) → lo' ≤ lo → hi ≤ hi' → ((o : Object) → Contains os o → Contains os' o) → EachOf (IsFrameOf program f lo hi os) frames → EachOf (IsFrameOf program f lo' hi' os') frames
+  pub all_wider : (f lo hi lo' hi' : ℕ) (os os' : List Object) (frames : List Allocation) → lo' ≤ lo → hi ≤ hi'
+      → ((o : Object) → Contains os o → Contains os' o) → EachOf (IsFrameOf program f lo hi os) frames
+      → EachOf (IsFrameOf program f lo' hi' os') frames
   all_wider f lo hi lo' hi' os os' frames low high more h = each_when (IsFrameOf program f lo hi os) (IsFrameOf program f lo' hi' os') frames (λ a known. wider f lo hi lo' hi' os os' a low high more known) h
 
-  has_wider : (xs ys : List Allocation) (os : List Object) → ((a : Allocation) → Contains xs a → Contains ys a) → EachOf (HasFrame program xs) os → EachOf (HasFrame program ys) os
+  has_wider : (xs ys : List Allocation) (os : List Object) → ((a : Allocation) → Contains xs a → Contains ys a)
+      → EachOf (HasFrame program xs) os → EachOf (HasFrame program ys) os
   has_wider xs ys os more h = each_when (HasFrame program xs) (HasFrame program ys) os (λ o has. record { frame = has.frame; among = more has.frame has.among; name = has.name; bits = has.bits }) h
 
-  result_wider : (f k : ℕ) (xs ys : List Allocation) → ((a : Allocation) → Contains xs a → Contains ys a) → HasResult program f xs k → HasResult program f ys k
+  result_wider : (f k : ℕ) (xs ys : List Allocation) → ((a : Allocation) → Contains xs a → Contains ys a)
+      → HasResult program f xs k → HasResult program f ys k
   result_wider f k xs ys more has = record { frame = has.frame; among = more has.frame has.among; name = has.name }
 
-  pub part_is : (f : ℕ) (os : List Object) (lo m n : ℕ) (frames : List Allocation) → m ≡ n → Part program f os lo m frames → Part program f os lo n frames
+  pub part_is : (f : ℕ) (os : List Object) (lo m n : ℕ) (frames : List Allocation) → m ≡ n
+      → Part program f os lo m frames → Part program f os lo n frames
   part_is f os lo m n frames e part = subst (λ (k : ℕ). Part program f os lo k frames) e part
 
   -- ---- one frame, or none
@@ -43,7 +50,8 @@ module _ (program : Program) where
   pub nothing : (f lo : ℕ) → Part program f [] lo 0 []
   nothing f lo = record { known = tt; apart = tt; objects_have = tt; results_have = λ k from to. absurd (omega (arith, from, to)); count = omega arith }
 
-  pub an_object : (f lo : ℕ) (o : Object) → IsObject program o → Part program f (o ∷ []) lo 0 (object_frame program o.token o.bits ∷ [])
+  pub an_object : (f lo : ℕ) (o : Object) → IsObject program o
+      → Part program f (o ∷ []) lo 0 (object_frame program o.token o.bits ∷ [])
   an_object f lo o is = record {
     known = (of_object o (first_member o []) is refl refl, tt);
     apart = (tt, tt);
@@ -52,7 +60,8 @@ module _ (program : Program) where
     count = omega arith;
   }
 
-  pub a_result : (f lo bits : ℕ) → f < length program.functions → lo < 10 ^ 64 → Part program f [] lo 1 (record { name = call_name program f lo; bits = bits } ∷ [])
+  pub a_result : (f lo bits : ℕ) → f < length program.functions → lo < 10 ^ 64
+      → Part program f [] lo 1 (record { name = call_name program f lo; bits = bits } ∷ [])
   a_result f lo bits function few = record {
     known = (of_result lo (omega arith) (omega arith) function few refl, tt);
     apart = (tt, tt);
@@ -64,11 +73,13 @@ module _ (program : Program) where
 module _ (program : Program) (names : HasNames program) where
   -- ---- frames of two parts
 
-  object_not_result : (g k : ℕ) (a b : Allocation) (o : Object) → IsObject program o → a.name ≡ frame_of program o.token → g < length program.functions → b.name ≡ call_name program g k → a.name ≢ b.name
+  object_not_result : (g k : ℕ) (a b : Allocation) (o : Object) → IsObject program o → a.name ≡ frame_of program o.token
+      → g < length program.functions → b.name ≡ call_name program g k → a.name ≢ b.name
   object_not_result g k a b o is name_a function name_b e =
       call_is_no_object program names is.0 o g k is.1 function (sym (frame_at program names is.0 o is.1) ∙ sym name_a ∙ e ∙ name_b)
 
-  pub frames_differ : (f g lo hi lo' hi' : ℕ) (os ps : List Object) (a b : Allocation) → Across (OfOtherFrames program names) os ps → ((k : ℕ) → f ≡ g → lo ≤ k → k < hi → lo' ≤ k → k < hi' → ⊥)
+  pub frames_differ : (f g lo hi lo' hi' : ℕ) (os ps : List Object) (a b : Allocation)
+      → Across (OfOtherFrames program names) os ps → ((k : ℕ) → f ≡ g → lo ≤ k → k < hi → lo' ≤ k → k < hi' → ⊥)
       → IsFrameOf program f lo hi os a → IsFrameOf program g lo' hi' ps b → a.name ≢ b.name
   frames_differ f g lo hi lo' hi' os ps a b across between (of_object o c is name bits) (of_object p d is' name' bits') e =
       each_member (OfOtherFrames program names o) ps p d (each_member (λ (x : Object). EachOf (OfOtherFrames program names x) ps) os o c across) (sym name ∙ e ∙ name')
@@ -78,7 +89,8 @@ module _ (program : Program) (names : HasNames program) where
       let same = calls_differ program names f g k l function function' few few' (sym name ∙ e ∙ name') in
       between k same.0 from to (subst (λ (x : ℕ). lo' ≤ x) (sym same.1) from') (subst (λ (x : ℕ). x < hi') (sym same.1) to')
 
-  pub known_apart : (f g lo hi lo' hi' : ℕ) (os ps : List Object) (xs ys : List Allocation) → Across (OfOtherFrames program names) os ps → ((k : ℕ) → f ≡ g → lo ≤ k → k < hi → lo' ≤ k → k < hi' → ⊥)
+  pub known_apart : (f g lo hi lo' hi' : ℕ) (os ps : List Object) (xs ys : List Allocation)
+      → Across (OfOtherFrames program names) os ps → ((k : ℕ) → f ≡ g → lo ≤ k → k < hi → lo' ≤ k → k < hi' → ⊥)
       → EachOf (IsFrameOf program f lo hi os) xs → EachOf (IsFrameOf program g lo' hi' ps) ys → Across DifferInName xs ys
   known_apart f g lo hi lo' hi' os ps xs ys across between known known' =
       each_when (IsFrameOf program f lo hi os) (λ (a : Allocation). EachOf (DifferInName a) ys) xs
@@ -86,7 +98,9 @@ module _ (program : Program) (names : HasNames program) where
 
   -- ---- parts in a row
 
-  pub joined : (f lo n mid m : ℕ) (os ps : List Object) (xs ys : List Allocation) → mid ≡ lo + n → Across (OfOtherFrames program names) os ps → Part program f os lo n xs → Part program f ps mid m ys → Part program f (os ++ ps) lo (n + m) (xs ++ ys)
+  pub joined : (f lo n mid m : ℕ) (os ps : List Object) (xs ys : List Allocation) → mid ≡ lo + n
+      → Across (OfOtherFrames program names) os ps → Part program f os lo n xs → Part program f ps mid m ys
+      → Part program f (os ++ ps) lo (n + m) (xs ++ ys)
   joined f lo n mid m os ps xs ys e across p q = record {
     known = each_joined (IsFrameOf program f lo (lo + (n + m)) (os ++ ps)) xs ys
         (all_wider program f lo (lo + n) lo (lo + (n + m)) os (os ++ ps) xs (omega arith) (omega arith) (λ o c. Contains-append_left os ps o c) p.known)

@@ -19,8 +19,10 @@ module _ (program : Program) where
   IsObject o = (i : ℕ) × (slice_get program.objects i ≡ Some o)
 
   pub data IsFrameOf (f lo hi : ℕ) (objects : List Object) (frame : Allocation) : Type 0 where
-    of_object : (o : Object) → Contains objects o → IsObject o → frame.name ≡ frame_of program o.token → frame.bits ≡ o.bits → IsFrameOf f lo hi objects frame
-    of_result : (k : ℕ) → lo ≤ k → k < hi → f < length program.functions → k < 10 ^ 64 → frame.name ≡ call_name program f k → IsFrameOf f lo hi objects frame
+    of_object : (o : Object) → Contains objects o → IsObject o → frame.name ≡ frame_of program o.token
+        → frame.bits ≡ o.bits → IsFrameOf f lo hi objects frame
+    of_result : (k : ℕ) → lo ≤ k → k < hi → f < length program.functions → k < 10 ^ 64
+        → frame.name ≡ call_name program f k → IsFrameOf f lo hi objects frame
 
   pub record HasFrame (frames : List Allocation) (o : Object) : Type 0 where
     pub frame : Allocation

@@ -23,11 +23,13 @@ use Rattle.lowering_layout.specs.Places.{NamedAs, HasName, OfOtherFrames}
 
 -- ---- lists
 
-pub each_of_places : {A : Type 0} (P : A → Type 0) (ys : List A) → ((j : ℕ) (y : A) → slice_get ys j ≡ Some y → P y) → EachOf P ys
+pub each_of_places : {A : Type 0} (P : A → Type 0) (ys : List A) → ((j : ℕ) (y : A) → slice_get ys j ≡ Some y → P y)
+    → EachOf P ys
 each_of_places P [] f = tt
 each_of_places P (y ∷ ys) f = (f 0 y refl, each_of_places P ys (λ j z at. f (suc j) z at))
 
-pub apart_of_places : {A : Type 0} (R : A → A → Type 0) (xs : List A) → ((i j : ℕ) (x y : A) → slice_get xs i ≡ Some x → slice_get xs j ≡ Some y → i < j → R x y) → Apart R xs
+pub apart_of_places : {A : Type 0} (R : A → A → Type 0) (xs : List A)
+    → ((i j : ℕ) (x y : A) → slice_get xs i ≡ Some x → slice_get xs j ≡ Some y → i < j → R x y) → Apart R xs
 apart_of_places R [] f = tt
 apart_of_places R (x ∷ xs) f = (
   each_of_places (R x) xs (λ j y at. f 0 (suc j) x y refl at (omega arith)),
@@ -39,16 +41,19 @@ apart_of_places R (x ∷ xs) f = (
 found_first : (o : Object) (os : List Object) (token : ℕ) → o.token ≡ token → object_at (o ∷ os) token ≡ 0
 found_first o os token e = ap (λ (b : Bool). if b then 0 else object_at os token + 1) (eq-eqb o.token token e)
 
-found_further : (o : Object) (os : List Object) (token : ℕ) → o.token ≢ token → object_at (o ∷ os) token ≡ suc (object_at os token)
+found_further : (o : Object) (os : List Object) (token : ℕ) → o.token ≢ token
+    → object_at (o ∷ os) token ≡ suc (object_at os token)
 found_further o os token e = ap (λ (b : Bool). if b then 0 else object_at os token + 1) (ne_eqb o.token token e) ∙ (omega arith)
 
-found_among : (os : List Object) (i : ℕ) (o : Object) → Apart OfOtherTokens os → slice_get os i ≡ Some o → object_at os o.token ≡ i
+found_among : (os : List Object) (i : ℕ) (o : Object) → Apart OfOtherTokens os → slice_get os i ≡ Some o
+    → object_at os o.token ≡ i
 found_among [] i o apart at = absurd (none-some o at)
 found_among (p ∷ os) zero o apart at = found_first p os o.token (ap (λ (x : Object). x.token) (same_Some p o at))
 found_among (p ∷ os) (suc i) o apart at = found_further p os o.token (each_at (OfOtherTokens p) os i o at apart.0) ∙ ap suc (found_among os i o apart.1 at)
 
 module _ (program : Program) (names : HasNames program) where
-  named_among : (seen os : List Object) (i : ℕ) (o : Object) → slice_get os i ≡ Some o → length seen + length os ≤ 256 → (name : List ℕ) × (slice_get (names_from program seen os) i ≡ Some name) × NamedAs program name o
+  named_among : (seen os : List Object) (i : ℕ) (o : Object) → slice_get os i ≡ Some o → length seen + length os ≤ 256
+      → (name : List ℕ) × (slice_get (names_from program seen os) i ≡ Some name) × NamedAs program name o
   named_among seen [] i o at few = absurd (none-some o at)
   named_among seen (p ∷ os) zero o at few =
       let low = count_within program names p seen in (
@@ -64,7 +69,8 @@ module _ (program : Program) (names : HasNames program) where
   object_found i o at = found_among program.objects i o names.tokens at
 
   -- its frame has the name at its place
-  pub frame_at : (i : ℕ) (o : Object) → slice_get program.objects i ≡ Some o → frame_of program o.token ≡ name_at program i
+  pub frame_at : (i : ℕ) (o : Object) → slice_get program.objects i ≡ Some o
+      → frame_of program o.token ≡ name_at program i
   frame_at i o at = ap (name_at program) (object_found i o at)
 
   pub named_at : (i : ℕ) (o : Object) → slice_get program.objects i ≡ Some o → HasName program names i o
@@ -74,7 +80,8 @@ module _ (program : Program) (names : HasNames program) where
       record { at = found.1 ∙ ap Some (sym is); named = subst (λ (name : List ℕ). NamedAs program name o) (sym is) found.2 }
 
   -- two objects have frames of two names
-  pub names_differ_at : (i j : ℕ) (o p : Object) → slice_get program.objects i ≡ Some o → slice_get program.objects j ≡ Some p → i < j → name_at program i ≢ name_at program j
+  pub names_differ_at : (i j : ℕ) (o p : Object) → slice_get program.objects i ≡ Some o
+      → slice_get program.objects j ≡ Some p → i < j → name_at program i ≢ name_at program j
   names_differ_at i j o p at_i at_j low = apart_at (λ (a b : List ℕ). a ≢ b) (frame_names program) i j (name_at program i) (name_at program j) (named_at i o at_i).at (named_at j p at_j).at low (object_names_differ program names)
 
   pub frames_apart : Apart (OfOtherFrames program names) program.objects
@@ -89,13 +96,15 @@ module _ (program : Program) (names : HasNames program) where
       let first : b ≡ 36 = cc in
       absurd (let bad : true ≡ false = sym (head_of b bs is.bytes).0 ∙ ap is_word_byte first in cc)
 
-  owned_no_call : (f k like : ℕ) (owner : Option ℕ) (t : List ℕ) → f < length program.functions → ((g : ℕ) → owner ≡ Some g → g < length program.functions) → IsIdentifier t
+  owned_no_call : (f k like : ℕ) (owner : Option ℕ) (t : List ℕ) → f < length program.functions
+      → ((g : ℕ) → owner ≡ Some g → g < length program.functions) → IsIdentifier t
       → owned_name program owner t like ≢ call_name program f k
   owned_no_call f k like None t low own is e = within_differs program names f (codes "$" ++ decimal k) t low is.bytes e
   owned_no_call f k like (Some g) t low own is e = no_dollar t (further like) k is (within_same program names g f (t ++ further like) (codes "$" ++ decimal k) (own g refl) low e).1
 
   -- a result's frame has no object's name
-  pub call_is_no_object : (i : ℕ) (o : Object) (f k : ℕ) → slice_get program.objects i ≡ Some o → f < length program.functions → name_at program i ≢ call_name program f k
+  pub call_is_no_object : (i : ℕ) (o : Object) (f k : ℕ) → slice_get program.objects i ≡ Some o
+      → f < length program.functions → name_at program i ≢ call_name program f k
   call_is_no_object i o f k at low e =
       let named = (named_at i o at).named in
       let known = each_at (IsKnown program names) program.objects i o at (known_objects program names) in

@@ -12,7 +12,8 @@ use Rattle.lowering_layout.specs.Texts.{Goes}
 
 -- ---- bytes
 
-pub head_of : (b : ℕ) (bs : List ℕ) → list_all is_word_byte (b ∷ bs) ≡ true → (is_word_byte b ≡ true) × (list_all is_word_byte bs ≡ true)
+pub head_of : (b : ℕ) (bs : List ℕ) → list_all is_word_byte (b ∷ bs) ≡ true
+    → (is_word_byte b ≡ true) × (list_all is_word_byte bs ≡ true)
 head_of b bs h = by_test (is_word_byte b) (λ t. (t, let more : list_all is_word_byte bs ≡ true = rw t at h in more)) (λ t. absurd (let bad : false ≡ true = rw t at h in cc))
 
 first_same : (a b : ℕ) (xs ys : List ℕ) → a ∷ xs ≡ b ∷ ys → a ≡ b
@@ -27,7 +28,8 @@ no_word : (b : ℕ) {A : Type 0} → is_word_byte b ≡ true → b ≡ 58 → A
 no_word b w e = absurd (let bad : true ≡ false = sym w ∙ ap is_word_byte e in cc)
 
 -- up to where a colon comes, words are known
-pub cut : (xs ys us bs : List ℕ) → list_all is_word_byte xs ≡ true → list_all is_word_byte ys ≡ true → Goes us → Goes bs → xs ++ us ≡ ys ++ bs → (xs ≡ ys) × (us ≡ bs)
+pub cut : (xs ys us bs : List ℕ) → list_all is_word_byte xs ≡ true → list_all is_word_byte ys ≡ true → Goes us → Goes bs
+    → xs ++ us ≡ ys ++ bs → (xs ≡ ys) × (us ≡ bs)
 cut [] [] us bs p q g h e = (refl, e)
 cut [] (y ∷ ys) [] bs p q g h e = absurd (let bad : [] ≡ y ∷ (ys ++ bs) = e in cc)
 cut [] (y ∷ ys) (u ∷ us) bs p q g h e = no_word y (head_of y ys q).0 (sym (first_same u y us (ys ++ bs) e) ∙ g)
@@ -39,7 +41,8 @@ cut (x ∷ xs) (y ∷ ys) us bs p q g h e =
     (cc, rest.1)
 
 -- a word alone and one after which a colon comes differ
-pub alone_differs : (xs ys bs : List ℕ) → list_all is_word_byte xs ≡ true → list_all is_word_byte ys ≡ true → xs ≢ ys ++ (58 ∷ bs)
+pub alone_differs : (xs ys bs : List ℕ) → list_all is_word_byte xs ≡ true → list_all is_word_byte ys ≡ true
+    → xs ≢ ys ++ (58 ∷ bs)
 alone_differs xs ys bs p q e =
     let parts = cut xs ys [] (58 ∷ bs) p q tt refl (append-nil xs ∙ e) in
     absurd (let bad : [] ≡ 58 ∷ bs = parts.1 in cc)

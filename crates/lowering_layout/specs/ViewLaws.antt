@@ -41,7 +41,8 @@ apart_own R words k (g ∷ fs) (suc i) function at h =
 -- ---- global frames
 
 module _ (unit : UnitTree) (names : HasNames (program_of unit)) where
-  pub view_of : (f : ℕ) (function : Function) → slice_get (whole unit names).functions f ≡ Some function → View (whole unit names) (globals unit names) f function
+  pub view_of : (f : ℕ) (function : Function) → slice_get (whole unit names).functions f ≡ Some function
+      → View (whole unit names) (globals unit names) f function
   view_of f function at =
       let low = slice_get_within (whole unit names).functions f function at in
       let params = map (parameter_object f) function.parameters in

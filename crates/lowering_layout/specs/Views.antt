@@ -30,7 +30,8 @@ abbrev pub owned_from : List Word → ℕ → List Function → List Object
 owned_from words f [] = []
 owned_from words f (function ∷ functions) = own_objects words f function ++ owned_from words (suc f) functions
 
-owned_is : (words : List Word) (f : ℕ) (file : File) (xs : List ExternalTree) → owned_in words f xs ≡ owned_from words f (functions_in file xs)
+owned_is : (words : List Word) (f : ℕ) (file : File) (xs : List ExternalTree)
+    → owned_in words f xs ≡ owned_from words f (functions_in file xs)
 owned_is words f file [] = refl
 owned_is words f file (Declaration first o ds ∷ xs) = owned_is words f (external_after file (Declaration first o ds)) xs
 owned_is words f file (Definition first o name params body ∷ xs) =
@@ -48,7 +49,8 @@ module _ (program : Program) where
   no_frame o None own is = absurd (own is)
   no_frame o (Some g) own is = ap (λ (x : Option ℕ). option_map_or (λ owner. []) x (object_frame program o.token o.bits ∷ [])) is
 
-  owned_frames : (os : List Object) → EachOf (λ (o : Object). o.owner ≢ None) os → flat_map (global_frame program) os ≡ []
+  owned_frames : (os : List Object) → EachOf (λ (o : Object). o.owner ≢ None) os
+      → flat_map (global_frame program) os ≡ []
   owned_frames [] own = refl
   owned_frames (o ∷ os) own = ap (λ (xs : List Allocation). xs ++ flat_map (global_frame program) os) (no_frame o o.owner own.0 refl) ∙ owned_frames os own.1
 

@@ -1,6 +1,7 @@
 //! What is true of the frames of each lowered program, as clauses of functions that do nothing.
 
-ghost use Rattle.lowering_layout.specs.FrameLaws.{FramesHavePlaces, GlobalFramesAreObjects, FunctionsAreLowered, NamesAreNumbered, ProgramsAreLaidOut};
+ghost use Rattle.lowering_layout.specs.FrameLaws.{FramesHavePlaces, GlobalFramesAreObjects, FunctionsAreLowered};
+ghost use Rattle.lowering_layout.specs.FrameLaws.{NamesAreNumbered, ProgramsAreLaidOut};
 
 use lowering_values::{constants_agree, events_keep_agreement};
 

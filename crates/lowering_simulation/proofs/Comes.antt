@@ -29,7 +29,8 @@ pub ticks_more : (of : ItemProgram) (t u : ℕ) (a : Standing) → ticks of (t +
 ticks_more of zero u a = let e : 0 + u ≡ u = omega arith in ap (λ (n : ℕ). ticks of n a) e
 ticks_more of (suc t) u a = let e : suc t + u ≡ suc (t + u) = omega arith in ap (λ (n : ℕ). ticks of n a) e ∙ ticks_more of t u (tick of a)
 
-pub on_from : (of : ItemProgram) (t u : ℕ) (a b d : Standing) → ticks of t a ≡ b → ticks of u b ≡ d → ticks of (t + u) a ≡ d
+pub on_from : (of : ItemProgram) (t u : ℕ) (a b d : Standing) → ticks of t a ≡ b → ticks of u b ≡ d
+    → ticks of (t + u) a ≡ d
 on_from of t u a b d e g = ticks_more of t u a ∙ ap (ticks of u) e ∙ g
 
 -- the functions of the calls that wait
@@ -97,16 +98,19 @@ module _ (of : ItemProgram) (program : Program) (place : ℕ → ℕ) (Rel : Lis
     Tests kt kf start m (Ok false) = Leads kf start m
     Tests kt kf start m (Err fault) = IsStopped (standing start) fault
 
-    comes_later : (t : ℕ) (a b : End) (goal : List RunEvent → End) (h : History) → ticks of t (standing a) ≡ standing b → Comes b goal h → Comes a goal h
+    comes_later : (t : ℕ) (a b : End) (goal : List RunEvent → End) (h : History) → ticks of t (standing a) ≡ standing b
+        → Comes b goal h → Comes a goal h
     comes_later t a b goal h e r =
         record { count = t + r.count; memory = r.memory; rel = r.rel; so = on_from of t r.count (standing a) (standing b) (standing (goal r.memory)) e r.so }
 
-    stops_later : (t : ℕ) (a b : End) (fault : RunFault) → ticks of t (standing a) ≡ standing b → IsStopped (standing b) fault → IsStopped (standing a) fault
+    stops_later : (t : ℕ) (a b : End) (fault : RunFault) → ticks of t (standing a) ≡ standing b
+        → IsStopped (standing b) fault → IsStopped (standing a) fault
     stops_later t a b fault e r =
         record { count = t + r.count; so = on_from of t r.count (standing a) (standing b) (Done (outcomes.Faulted fault)) e r.so }
 
     -- what is reached from after some stretches is reached
-    pub later_reaches : (p q : Bool) (n n' t : ℕ) (ko ka k : List BodyItem) (a b : End) (r : Ending) → n' ≤ t + n → ticks of t (standing a) ≡ standing b
+    pub later_reaches : (p q : Bool) (n n' t : ℕ) (ko ka k : List BodyItem) (a b : End) (r : Ending) → n' ≤ t + n
+        → ticks of t (standing a) ≡ standing b
         → Reaches p q n ko ka k b r → Reaches p q n' ko ka k a r
     later_reaches p q n n' t ko ka k a b (Normal h) le e r = comes_later t a b (λ m. ahead of f k m) h e r
     later_reaches p q n n' t ko ka k a b (Broke h) le e r = (r.0, comes_later t a b (λ m. ahead of f ko m) h e r.1)
@@ -121,7 +125,8 @@ module _ (of : ItemProgram) (program : Program) (place : ℕ → ℕ) (Rel : Lis
         }
 
     -- fewer stretches last too
-    pub fewer : (p q : Bool) (n n' : ℕ) (ko ka k : List BodyItem) (a : End) (r : Ending) → n' ≤ n → Reaches p q n ko ka k a r → Reaches p q n' ko ka k a r
+    pub fewer : (p q : Bool) (n n' : ℕ) (ko ka k : List BodyItem) (a : End) (r : Ending) → n' ≤ n
+        → Reaches p q n ko ka k a r → Reaches p q n' ko ka k a r
     fewer p q n n' ko ka k a r le x = later_reaches p q n n' 0 ko ka k a a r (omega arith) refl x
 
     -- what follows what is reached
@@ -129,7 +134,8 @@ module _ (of : ItemProgram) (program : Program) (place : ℕ → ℕ) (Rel : Lis
         → ((m l : List RunEvent) → Here m l → Reaches p q n ko ka k (goal m) (go l)) → Reaches p q n ko ka k a (go h)
     next p q n ko ka k a goal h go r on = later_reaches p q n n r.count ko ka k a (goal r.memory) (go h) (omega arith) r.so (on r.memory h r.rel)
 
-    pub sequence : (p q : Bool) (n : ℕ) (ko ka k1 k : List BodyItem) (a : End) (r : Ending) (go : History → Ending) → Reaches p q n ko ka k1 a r
+    pub sequence : (p q : Bool) (n : ℕ) (ko ka k1 k : List BodyItem) (a : End) (r : Ending) (go : History → Ending)
+        → Reaches p q n ko ka k1 a r
         → ((m h : List RunEvent) → Here m h → Reaches p q n ko ka k (ahead of f k1 m) (go h)) → Reaches p q n ko ka k a (then_do r go)
     sequence p q n ko ka k1 k a (Normal h) go r on = next p q n ko ka k a (λ m. ahead of f k1 m) h go r on
     sequence p q n ko ka k1 k a (Broke h) go r on = r
@@ -149,7 +155,8 @@ module _ (of : ItemProgram) (program : Program) (place : ℕ → ℕ) (Rel : Lis
     body_then p q n m ko ka ka' k1 k a (Faulted fault) go le r on again = r
     body_then p q n m ko ka ka' k1 k a UsedUp go le r on again = record { count = r.count; enough = (let h : n ≤ r.count = r.enough in omega arith); so = r.so }
 
-    pub switch_then : (p q : Bool) (n : ℕ) (ko ka k : List BodyItem) (a : End) (r : Ending) → Reaches true q n k ka k a r → Reaches p q n ko ka k a (after_switch r)
+    pub switch_then : (p q : Bool) (n : ℕ) (ko ka k : List BodyItem) (a : End) (r : Ending)
+        → Reaches true q n k ka k a r → Reaches p q n ko ka k a (after_switch r)
     switch_then p q n ko ka k a (Normal h) r = r
     switch_then p q n ko ka k a (Broke h) r = r.1
     switch_then p q n ko ka k a (Continued h) r = r
@@ -167,14 +174,17 @@ module _ (of : ItemProgram) (program : Program) (place : ℕ → ℕ) (Rel : Lis
         later_reaches p q n n' test.0 ko ka k a (ahead of f kf m) failed (let h : 1 ≤ test.0 = test.1 in omega arith) test.2 rf
 
     -- nothing more
-    pub stays : (p q : Bool) (n : ℕ) (ko ka k : List BodyItem) (m h : List RunEvent) → Here m h → Reaches p q n ko ka k (ahead of f k m) (Normal h)
+    pub stays : (p q : Bool) (n : ℕ) (ko ka k : List BodyItem) (m h : List RunEvent) → Here m h
+        → Reaches p q n ko ka k (ahead of f k m) (Normal h)
     stays p q n ko ka k m h rel = record { count = 0; memory = m; rel = rel; so = refl }
 
     -- what an item does is reached
-    goes_comes : (rank : ℕ → ℕ) (end : End) (goal : List RunEvent → End) (h : History) → Goes of program place Rel rank f (functions_of stack) h end goal → Comes end goal h
+    goes_comes : (rank : ℕ → ℕ) (end : End) (goal : List RunEvent → End) (h : History)
+        → Goes of program place Rel rank f (functions_of stack) h end goal → Comes end goal h
     goes_comes rank end goal h g = record { count = 0; memory = g.later; rel = g.rel; so = ap standing g.same }
 
-    pub item_reaches : (rank : ℕ → ℕ) (p q : Bool) (n : ℕ) (ko ka k : List BodyItem) (end : End) (e : Ending) → ItemEnds of program place Rel rank f (functions_of stack) k end e
+    pub item_reaches : (rank : ℕ → ℕ) (p q : Bool) (n : ℕ) (ko ka k : List BodyItem) (end : End) (e : Ending)
+        → ItemEnds of program place Rel rank f (functions_of stack) k end e
         → Reaches p q n ko ka k end e
     item_reaches rank p q n ko ka k end (Normal h) r = goes_comes rank end (λ m. ahead of f k m) h r
     item_reaches rank p q n ko ka k end (Broke h) r = absurd r

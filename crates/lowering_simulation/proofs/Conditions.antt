@@ -85,21 +85,24 @@ module _ (of : ItemProgram) (program : Program) (place : ℕ → ℕ) (Rel : Lis
 
   -- ---- tests in a row
 
-  test_then_and : (k1 kt kf : List BodyItem) (a : End) (m : List RunEvent) (o p : Result Bool RunFault) → Test k1 kf a m o → Test kt kf (ahead of f k1 m) m p → Test kt kf a m (both_of o p)
+  test_then_and : (k1 kt kf : List BodyItem) (a : End) (m : List RunEvent) (o p : Result Bool RunFault)
+      → Test k1 kf a m o → Test kt kf (ahead of f k1 m) m p → Test kt kf a m (both_of o p)
   test_then_and k1 kt kf a m (Err fault) p r q = r
   test_then_and k1 kt kf a m (Ok false) p r q = r
   test_then_and k1 kt kf a m (Ok true) (Err fault) r q = record { count = r.0 + q.count; so = on_from of r.0 q.count _ _ _ r.2 q.so }
   test_then_and k1 kt kf a m (Ok true) (Ok true) r q = (r.0 + q.0, (let h : 1 ≤ r.0 = r.1 in omega arith), on_from of r.0 q.0 _ _ _ r.2 q.2)
   test_then_and k1 kt kf a m (Ok true) (Ok false) r q = (r.0 + q.0, (let h : 1 ≤ r.0 = r.1 in omega arith), on_from of r.0 q.0 _ _ _ r.2 q.2)
 
-  test_then_or : (k1 kt kf : List BodyItem) (a : End) (m : List RunEvent) (o p : Result Bool RunFault) → Test kt k1 a m o → Test kt kf (ahead of f k1 m) m p → Test kt kf a m (either_of o p)
+  test_then_or : (k1 kt kf : List BodyItem) (a : End) (m : List RunEvent) (o p : Result Bool RunFault)
+      → Test kt k1 a m o → Test kt kf (ahead of f k1 m) m p → Test kt kf a m (either_of o p)
   test_then_or k1 kt kf a m (Err fault) p r q = r
   test_then_or k1 kt kf a m (Ok true) p r q = r
   test_then_or k1 kt kf a m (Ok false) (Err fault) r q = record { count = r.0 + q.count; so = on_from of r.0 q.count _ _ _ r.2 q.so }
   test_then_or k1 kt kf a m (Ok false) (Ok true) r q = (r.0 + q.0, (let h : 1 ≤ r.0 = r.1 in omega arith), on_from of r.0 q.0 _ _ _ r.2 q.2)
   test_then_or k1 kt kf a m (Ok false) (Ok false) r q = (r.0 + q.0, (let h : 1 ≤ r.0 = r.1 in omega arith), on_from of r.0 q.0 _ _ _ r.2 q.2)
 
-  swapped : (kt kf : List BodyItem) (a : End) (m : List RunEvent) (o : Result Bool RunFault) → Test kf kt a m o → Test kt kf a m (negated o)
+  swapped : (kt kf : List BodyItem) (a : End) (m : List RunEvent) (o : Result Bool RunFault) → Test kf kt a m o
+      → Test kt kf a m (negated o)
   swapped kt kf a m (Err fault) r = r
   swapped kt kf a m (Ok true) r = r
   swapped kt kf a m (Ok false) r = r
@@ -107,7 +110,8 @@ module _ (of : ItemProgram) (program : Program) (place : ℕ → ℕ) (Rel : Lis
   abbrev one_target : List ℕ → List (Num × List ℕ)
   one_target held = (record { signed = false; size = 1; bits = 1 }, held) ∷ []
 
-  on_bit : (held failed : List ℕ) (kt kf : List BodyItem) (m : List RunEvent) (r : Result Bool RunFault) → items_after held all ≡ kt → items_after failed all ≡ kf
+  on_bit : (held failed : List ℕ) (kt kf : List BodyItem) (m : List RunEvent) (r : Result Bool RunFault)
+      → items_after held all ≡ kt → items_after failed all ≡ kf
       → Test kt kf (switched (one_target held) failed m (as_bit r)) m r
   on_bit held failed kt kf m (Err fault) et ef = record { count = 1; so = refl }
   on_bit held failed kt kf m (Ok true) et ef = (1, omega arith, to_label held kt m et)
@@ -123,7 +127,8 @@ module _ (of : ItemProgram) (program : Program) (place : ℕ → ℕ) (Rel : Lis
 
   module _ (once : (l : ℕ) → l < 2 ^ 64 → count (label code l) all ≤ 1) where
     -- after a label is what stands after it
-    pub at_label : (l : ℕ) (k : List BodyItem) → l < 2 ^ 64 → Stands all (label_item code l ∷ k) → items_after (label code l) all ≡ k
+    pub at_label : (l : ℕ) (k : List BodyItem) → l < 2 ^ 64 → Stands all (label_item code l ∷ k)
+        → items_after (label code l) all ≡ k
     at_label l k low s = leads all k (label code l) (once l low) s
 
     pub condition_run : (scopes : List Scope) (e : Expression) (n : ℕ) (held failed : List ℕ) (kt kf k : List BodyItem) (m h : List RunEvent)

@@ -48,7 +48,8 @@ apart_below rank g (waiting ∷ stack) below =
 
 module _ (of : ItemProgram) (program : Program) (place : ℕ → ℕ) (Rel : List ℕ → List RunEvent → List RunEvent → Type 0) (rank : ℕ → ℕ) (does : FunctionsDo of program place Rel rank) where
   -- the last return of a function leaves it
-  end_leaves : (g : ℕ) (o : Outcome) (m : List RunEvent) → ahead of g (last_return o ∷ []) m ≡ Leaves (option_map (embedded_value place) (at_end o)) m
+  end_leaves : (g : ℕ) (o : Outcome) (m : List RunEvent)
+      → ahead of g (last_return o ∷ []) m ≡ Leaves (option_map (embedded_value place) (at_end o)) m
   end_leaves g outcomes.Nothing m = refl
   end_leaves g (outcomes.Integer Char) m = refl
   end_leaves g (outcomes.Integer UnsignedChar) m = refl
@@ -60,7 +61,8 @@ module _ (of : ItemProgram) (program : Program) (place : ℕ → ℕ) (Rel : Lis
   abbrev result_at : ℕ → Outcome
   result_at g = (function_at program g).result
 
-  function_ends : (g : ℕ) (stack : List Waiting) (n : ℕ) (ko ka : List BodyItem) (start : End) (e : Ending) → IsBelow rank (rank g) stack
+  function_ends : (g : ℕ) (stack : List Waiting) (n : ℕ) (ko ka : List BodyItem) (start : End) (e : Ending)
+      → IsBelow rank (rank g) stack
       → Reaches of program place Rel g stack false false n ko ka (last_return (result_at g) ∷ []) start e → CallReaches of program place Rel g stack n (Run g stack start) (left (result_at g) g e)
   function_ends g stack n ko ka start (Normal h) below r =
       record {
@@ -88,7 +90,8 @@ module _ (of : ItemProgram) (program : Program) (place : ℕ → ℕ) (Rel : Lis
   function_ends g stack n ko ka start UsedUp below r = r
 
   -- each label of the function stands once
-  once : (g : ℕ) → g < length program.functions → (l : ℕ) → l < 2 ^ 64 → count (label (record { program = program; function = g }) l) (of.items g) ≤ 1
+  once : (g : ℕ) → g < length program.functions → (l : ℕ) → l < 2 ^ 64
+      → count (label (record { program = program; function = g }) l) (of.items g) ≤ 1
   once g there l low =
       subst (λ (items : List BodyItem). count (label (record { program = program; function = g }) l) items ≤ 1) (sym (does.items g there))
       (label_stands_once program g (function_at program g) l low (does.room g))

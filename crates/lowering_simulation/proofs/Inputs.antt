@@ -46,7 +46,8 @@ module _ (globals : GlobalFramesAreObjects) (unit : UnitTree) (program : Numbere
       (λ (own : IsRootArgument program row.frame). argument row.frame own)
       keeps.may
 
-  pub are_cells : (rows : List InputRow) (words : List ℕ) → All (KeepsInput program) rows → AreWords rows words → (cells : List Cell) × AreCells unit rows words cells
+  pub are_cells : (rows : List InputRow) (words : List ℕ) → All (KeepsInput program) rows → AreWords rows words
+      → (cells : List Cell) × AreCells unit rows words cells
   are_cells [] [] keep are = ([], none)
   are_cells [] (word ∷ words) keep are = absurd are
   are_cells (row ∷ rows) [] keep are = absurd are
@@ -57,7 +58,8 @@ module _ (globals : GlobalFramesAreObjects) (unit : UnitTree) (program : Numbere
 
 -- objects lie in frames of their own, so that a row has one object
 module _ (unit : UnitTree) (frames : FramesStand unit) where
-  pub one_cells : (rows : List InputRow) (words : List ℕ) (these those : List Cell) → AreCells unit rows words these → AreCells unit rows words those → these ≡ those
+  pub one_cells : (rows : List InputRow) (words : List ℕ) (these those : List Cell) → AreCells unit rows words these
+      → AreCells unit rows words those → these ≡ those
   one_cells _ _ _ _ none none = refl
   one_cells _ _ _ _ (cell row rows word words o these at low is) (cell _ _ _ _ p those beside _ are) =
       let object : o ≡ p = frames.apart o p (sym at ∙ beside) in

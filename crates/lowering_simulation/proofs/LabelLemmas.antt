@@ -19,7 +19,8 @@ below_one n k =
     ]
 
 -- no label of a function stands twice
-pub label_stands_once : (program : Program) (f : ℕ) (function : Function) (k : ℕ) → k < 2 ^ 64 → labels_in_all function.body ≤ 2 ^ 64
+pub label_stands_once : (program : Program) (f : ℕ) (function : Function) (k : ℕ) → k < 2 ^ 64
+    → labels_in_all function.body ≤ 2 ^ 64
     → count (label (record { program = program; function = f }) k) (function_items program f function) ≤ 1
 label_stands_once program f function k low few =
     let within : Within = record { program = program; function = f } in

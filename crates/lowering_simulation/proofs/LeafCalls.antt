@@ -71,7 +71,8 @@ module _ (unit : UnitTree) (root : List ℕ) (rank : ℕ → ℕ) where
 
     -- ---- results
 
-    integer_results : (i : Integer) (n : ℕ) (made : NamedExpression → BodyItem) (go : Valued → History → Ending) → IsFrame (record { name = call_name (program_of unit) f n; bits = bits_of_type i }) → MadeDoes made go
+    integer_results : (i : Integer) (n : ℕ) (made : NamedExpression → BodyItem) (go : Valued → History → Ending)
+        → IsFrame (record { name = call_name (program_of unit) f n; bits = bits_of_type i }) → MadeDoes made go
         → ResultsDo (of unit root rank) (program_of unit) (frame_number unit) related rank f (outcomes.Integer i) (call_name (program_of unit) f n)
         (λ rest. made (result_value (outcomes.Integer i) (call_name (program_of unit) f n)) ∷ rest) (λ v h. go (given (outcomes.Integer i) v) h)
     integer_results i n made go among does_made fs m h v rest rel fits =
@@ -106,7 +107,8 @@ module _ (unit : UnitTree) (root : List ℕ) (rank : ℕ → ℕ) where
     -- ---- calls
 
     -- the function that is called gives what its entry says
-    result_is : (scopes : List Scope) (call : CallTree) (o : Outcome) → ScopesKnown unit f scopes → IsCall unit.words (definitions unit.externals) scopes call o
+    result_is : (scopes : List Scope) (call : CallTree) (o : Outcome) → ScopesKnown unit f scopes
+        → IsCall unit.words (definitions unit.externals) scopes call o
         → number_of_call call.name < length (program_of unit).functions → (function_at (program_of unit) (number_of_call call.name)).result ≡ o
     result_is scopes call o known c there =
         let g : ℕ = number_of_call call.name in

@@ -78,7 +78,8 @@ module _ (unit : UnitTree) (root : List ℕ) (rank : ℕ → ℕ) (laws : ValueL
       (laws.operators unit frame m op kind b (value_of (program_of unit) scopes to) e left (r h) frames operator (laws.values unit f frame scopes m h to t there target.has plain) (gives fs m h rel) (fits fs m h rel))
       (laws.operators_fit op kind b left (r h) left_fits (fits fs m h rel))
 
-  pub effect_does : (scopes : List Scope) (e : EffectTree) (n : ℕ) → ScopesKnown unit f scopes → EffectStands unit.words (definitions unit.externals) scopes e → EffectIsPlain e
+  pub effect_does : (scopes : List Scope) (e : EffectTree) (n : ℕ) → ScopesKnown unit f scopes
+      → EffectStands unit.words (definitions unit.externals) scopes e → EffectIsPlain e
       → EachOf Fine (calls_in_effect e) → EachOf Framed (effect_frames (program_of unit) f n e) → EffectDoes (of unit root rank) (program_of unit) (frame_number unit) related rank f scopes e n
   effect_does scopes (Assigns to token value) n known stands plain fine among =
       let kind : Scalar = kind_of unit.words scopes to in
@@ -96,14 +97,16 @@ module _ (unit : UnitTree) (root : List ℕ) (rank : ℕ → ℕ) (laws : ValueL
       call_does unit root rank laws frames f naming scopes call n (λ rest. rest) (λ v h. Normal h) stands.0 known stands.1 plain (fine.0 stands.1.made)
       (dropped_results unit root rank laws frames f naming (function_at (program_of unit) (callee (program_of unit) call)).result n among)
 
-  pub last_does : (scopes : List Scope) (e : Option EffectTree) (n : ℕ) → ScopesKnown unit f scopes → IfDone unit.words (definitions unit.externals) scopes e → LastIsPlain e
+  pub last_does : (scopes : List Scope) (e : Option EffectTree) (n : ℕ) → ScopesKnown unit f scopes
+      → IfDone unit.words (definitions unit.externals) scopes e → LastIsPlain e
       → EachOf Fine (calls_if_done e) → EachOf Framed (last_frames (program_of unit) f n e) → IfDoes (of unit root rank) (program_of unit) (frame_number unit) related rank f scopes e n
   last_does scopes None n known stands plain fine among = tt
   last_does scopes (Some e) n known stands plain fine among = effect_does scopes e n known stands plain fine among
 
   -- ---- declarations
 
-  first_does : (scopes : List Scope) (t : Scalar) (token : ℕ) (first : Option ValueTree) (n : ℕ) → ScopesKnown unit f scopes → Sees unit f (object_at (objects_of unit) token)
+  first_does : (scopes : List Scope) (t : Scalar) (token : ℕ) (first : Option ValueTree) (n : ℕ)
+      → ScopesKnown unit f scopes → Sees unit f (object_at (objects_of unit) token)
       → IfValued unit.words (definitions unit.externals) scopes t first → FirstIsPlain first → EachOf Fine (calls_if_valued first) → EachOf Framed (first_frames (program_of unit) f n first)
       → FirstDoes (of unit root rank) (program_of unit) (frame_number unit) related rank f scopes t token first n
   first_does scopes t token None n known sees stands plain fine among = tt
@@ -113,7 +116,8 @@ module _ (unit : UnitTree) (root : List ℕ) (rank : ℕ → ℕ) (laws : ValueL
       (λ fs m h rest e v rel gives fits. assign_does unit root rank laws frames f naming fs m h rest t (Address (frame_of (program_of unit) token) 0) e (Ok (values.Ptr (object_at (objects_of unit) token) 0)) v rel
       (laws.objects unit f frame m token 0 naming sees) gives fits)
 
-  elements_do : (token : ℕ) (kind : Integer) (offset count : ℕ) (cs : List Constant) → Sees unit f (object_at (objects_of unit) token)
+  elements_do : (token : ℕ) (kind : Integer) (offset count : ℕ) (cs : List Constant)
+      → Sees unit f (object_at (objects_of unit) token)
       → ElementsDo (of unit root rank) (program_of unit) (frame_number unit) related rank f token kind offset count cs
   elements_do token kind offset zero cs sees = tt
   elements_do token kind offset (suc count) cs sees = (
@@ -124,19 +128,22 @@ module _ (unit : UnitTree) (root : List ℕ) (rank : ℕ → ℕ) (laws : ValueL
     elements_do token kind (offset + bytes_of_type kind) count (further_elements cs) sees,
   )
 
-  array_does : (token : ℕ) (kind : Integer) (size : ℕ) (firsts : Option (List Constant)) → Sees unit f (object_at (objects_of unit) token)
+  array_does : (token : ℕ) (kind : Integer) (size : ℕ) (firsts : Option (List Constant))
+      → Sees unit f (object_at (objects_of unit) token)
       → ArrayDoes (of unit root rank) (program_of unit) (frame_number unit) related rank f token kind size firsts
   array_does token kind size None sees = tt
   array_does token kind size (Some cs) sees = elements_do token kind 0 (count_at unit.words size) cs sees
 
-  shape_does : (scopes : List Scope) (kind : Integer) (token : ℕ) (shape : LocalShapeTree) (n : ℕ) → ScopesKnown unit f scopes → Sees unit f (object_at (objects_of unit) token)
+  shape_does : (scopes : List Scope) (kind : Integer) (token : ℕ) (shape : LocalShapeTree) (n : ℕ)
+      → ScopesKnown unit f scopes → Sees unit f (object_at (objects_of unit) token)
       → ShapeStands unit.words (definitions unit.externals) scopes kind shape → ShapeIsPlain shape → EachOf Fine (calls_in_shape shape) → EachOf Framed (shape_frames (program_of unit) f n shape)
       → ShapeDoes (of unit root rank) (program_of unit) (frame_number unit) related rank f scopes kind token shape n
   shape_does scopes kind token (LocalInteger first) n known sees stands plain fine among = first_does scopes (scalars.Integer kind) token first n known sees stands plain fine among
   shape_does scopes kind token (LocalPointer first) n known sees stands plain fine among = first_does scopes (scalars.Pointer kind) token first n known sees stands plain fine among
   shape_does scopes kind token (LocalArray size firsts) n known sees stands plain fine among = array_does token kind size firsts sees
 
-  pub locals_do : (kind : Integer) (scopes : List Scope) (locals : List LocalTree) (n : ℕ) → ScopesKnown unit f scopes → EachOf (IsOwn unit f) (map (local_object unit.words f kind) locals)
+  pub locals_do : (kind : Integer) (scopes : List Scope) (locals : List LocalTree) (n : ℕ) → ScopesKnown unit f scopes
+      → EachOf (IsOwn unit f) (map (local_object unit.words f kind) locals)
       → LocalsStand unit.words (definitions unit.externals) kind scopes locals → LocalsArePlain locals → EachOf Fine (calls_in_locals locals) → EachOf Framed (locals_frames (program_of unit) f n kind locals)
       → LocalsDo (of unit root rank) (program_of unit) (frame_number unit) related rank f kind scopes locals n
   locals_do kind scopes [] n known own stands plain fine among = tt
@@ -152,7 +159,8 @@ module _ (unit : UnitTree) (root : List ℕ) (rank : ℕ → ℕ) (laws : ValueL
 
   -- ---- returns
 
-  pub return_stands_does : (scopes : List Scope) (o : Outcome) (value : Option ValueTree) (n : ℕ) → o ≡ (function_at (program_of unit) f).result → ScopesKnown unit f scopes
+  pub return_stands_does : (scopes : List Scope) (o : Outcome) (value : Option ValueTree) (n : ℕ)
+      → o ≡ (function_at (program_of unit) f).result → ScopesKnown unit f scopes
       → ReturnStands unit.words (definitions unit.externals) scopes o value → FirstIsPlain value → EachOf Fine (calls_if_valued value) → EachOf Framed (first_frames (program_of unit) f n value)
       → ReturnDoes (of unit root rank) (program_of unit) (frame_number unit) related rank f scopes value n
   return_stands_does scopes outcomes.Nothing None n is known stands plain fine among = subst (λ (p : Outcome). ResultFits p None) is tt

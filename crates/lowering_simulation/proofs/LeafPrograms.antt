@@ -50,20 +50,24 @@ use Rattle.lowering_simulation.proofs.LeafStatements.{statements_do}
 
 -- ---- functions that run
 
-running_store : (fs : List ℕ) (m : List RunEvent) (frame offset size : ℕ) (v : Value) → AreRunning fs m → AreRunning fs (Store frame offset size v ∷ m)
+running_store : (fs : List ℕ) (m : List RunEvent) (frame offset size : ℕ) (v : Value) → AreRunning fs m
+    → AreRunning fs (Store frame offset size v ∷ m)
 running_store [] m frame offset size v running = tt
 running_store (f ∷ fs) m frame offset size v running = (running.0, running_store fs m frame offset size v running.1)
 
-running_arguments : (fs frames : List ℕ) (vs : List Value) (m : List RunEvent) → AreRunning fs m → AreRunning fs (with_arguments frames vs m)
+running_arguments : (fs frames : List ℕ) (vs : List Value) (m : List RunEvent) → AreRunning fs m
+    → AreRunning fs (with_arguments frames vs m)
 running_arguments fs [] vs m running = running
 running_arguments fs (frame ∷ frames) [] m running = running
 running_arguments fs (frame ∷ frames) (v ∷ vs) m running = running_arguments fs frames vs (Store frame 0 (size_of v) v ∷ m) (running_store fs m frame 0 (size_of v) v running)
 
-running_inits : (fs : List ℕ) (inits : List InitRow) (m : List RunEvent) → AreRunning fs m → AreRunning fs (with_inits inits m)
+running_inits : (fs : List ℕ) (inits : List InitRow) (m : List RunEvent) → AreRunning fs m
+    → AreRunning fs (with_inits inits m)
 running_inits fs [] m running = running
 running_inits fs (init ∷ inits) m running = running_inits fs inits _ (running_store fs m init.frame init.offset init.num.size _ running)
 
-running_inputs : (fs : List ℕ) (rows : List InputRow) (words : List ℕ) (m : List RunEvent) → AreRunning fs m → AreRunning fs (with_inputs rows words m)
+running_inputs : (fs : List ℕ) (rows : List InputRow) (words : List ℕ) (m : List RunEvent) → AreRunning fs m
+    → AreRunning fs (with_inputs rows words m)
 running_inputs fs [] words m running = running
 running_inputs fs (row ∷ rows) [] m running = running
 running_inputs fs (row ∷ rows) (bits ∷ words) m running = running_inputs fs rows words _ (running_store fs m row.frame row.offset row.size _ running)
@@ -73,7 +77,8 @@ running_enter g [] m running = tt
 running_enter g (f ∷ fs) m running =
     (by_test (g == f) (λ t. ap (λ (b : Bool). if b then true else is_running m f) t) (λ t. ap (λ (b : Bool). if b then true else is_running m f) t ∙ running.0), running_enter g fs m running.1)
 
-running_entered : (program : NumberedProgram) (g : ℕ) (fs : List ℕ) (vs : List Value) (m : List RunEvent) → AreRunning fs m → AreRunning (g ∷ fs) (entered program g vs m)
+running_entered : (program : NumberedProgram) (g : ℕ) (fs : List ℕ) (vs : List Value) (m : List RunEvent)
+    → AreRunning fs m → AreRunning (g ∷ fs) (entered program g vs m)
 running_entered program g fs vs m running =
     running_inits (g ∷ fs) (inits_at program g) (with_arguments (args_at program g) vs (Enter g ∷ m)) (running_arguments (g ∷ fs) (args_at program g) vs (Enter g ∷ m)
     (ap (λ (b : Bool). if b then true else is_running m g) (eq-eqb g g refl), running_enter g fs m running))
@@ -103,14 +108,17 @@ module _ (unit : UnitTree) (root : List ℕ) (laws : ValueLaws) where
         lowered_at (program_of unit) 0 (program_of unit).functions f (function_at (program_of unit) f) (function_there (program_of unit) f low)
         ∙ ap (λ (n : ℕ). Some (lowered_function (program_of unit) n (function_at (program_of unit) f))) (let e : 0 + f ≡ f = omega arith in e)
 
-    items_are : (f : ℕ) → f < length (program_of unit).functions → (of unit root rank).items f ≡ function_items (program_of unit) f (function_at (program_of unit) f)
+    items_are : (f : ℕ) → f < length (program_of unit).functions
+        → (of unit root rank).items f ≡ function_items (program_of unit) f (function_at (program_of unit) f)
     items_are f low = ap (λ (x : Option alf.Function). option_map_or (λ (func : alf.Function). func.items) x []) (lowered_there f low)
 
-    func_named : (f : ℕ) → f < length (program_of unit).functions → (text : List ℕ) → ((of unit root rank).numbers f).func text ≡ func_number (lowered unit).funcs text
+    func_named : (f : ℕ) → f < length (program_of unit).functions → (text : List ℕ)
+        → ((of unit root rank).numbers f).func text ≡ func_number (lowered unit).funcs text
     func_named f low text = ap (λ (x : Option alf.Function). (option_map_or (numbers_in (lowered unit) (first_frame (lowered unit) f)) x no_numbers).func text) (lowered_there f low)
 
     -- the calls of a function
-    fine_token : (f : ℕ) (low : f < length (program_of unit).functions) (token : ℕ) → Contains (called_in (function_at (program_of unit) f).body) token
+    fine_token : (f : ℕ) (low : f < length (program_of unit).functions) (token : ℕ)
+        → Contains (called_in (function_at (program_of unit) f).body) token
         → FineIfDefined unit root rank laws placed.frames f (placed.naming f low) token
     fine_token f low token among defined =
         let there = low_named unit.words (record { scope = []; made = [] }) unit.externals (text_at unit.words token) defined in
@@ -145,7 +153,8 @@ module _ (unit : UnitTree) (root : List ℕ) (laws : ValueLaws) where
         ap (func_number (lowered unit).funcs) same
         ∙ func_is (program_of unit) name (low_named unit.words (record { scope = []; made = [] }) unit.externals name is.rooted)
 
-    pub target_has_the_outcome : RunsHaveTheUnitsOutcome → root ≡ name → (rows : List InputRow) (words : List ℕ) (cells : List Cell) → AreCells unit rows words cells
+    pub target_has_the_outcome : RunsHaveTheUnitsOutcome → root ≡ name
+        → (rows : List InputRow) (words : List ℕ) (cells : List Cell) → AreCells unit rows words cells
         → ((history : List RunEvent) (t : ℕ) (o : Outcome) → FollowEachOther (of unit root rank) t history o)
         → IsSameOutcome target (start target rows words) (frame_number unit) (λ n. outcome unit name n cells)
     target_has_the_outcome runs same rows words cells are follow =

@@ -54,22 +54,26 @@ module _ (unit : UnitTree) (root : List ℕ) (rank : ℕ → ℕ) (laws : ValueL
   is_in_switch : (around : Around) (b c : Bool) → AroundIs around b c → AroundIs (in_switch_of around) true c
   is_in_switch around b c is = record { breaks = refl; continues = is.continues; gives = is.gives }
 
-  is_after : (around : Around) (b c : Bool) (s : Statement) → AroundIs around b c → AroundIs (around_after unit.words around s) b c
+  is_after : (around : Around) (b c : Bool) (s : Statement) → AroundIs around b c
+      → AroundIs (around_after unit.words around s) b c
   is_after around b c (Case token constant) is = record { breaks = is.breaks; continues = is.continues; gives = is.gives }
   is_after around b c (Default token) is = record { breaks = is.breaks; continues = is.continues; gives = is.gives }
   is_after around b c _ is = is
 
-  condition_does : (scopes : List Scope) (e : Expression) → ScopesKnown unit f scopes → IsCondition unit.words scopes e → IfIsPlain (Some e)
+  condition_does : (scopes : List Scope) (e : Expression) → ScopesKnown unit f scopes → IsCondition unit.words scopes e
+      → IfIsPlain (Some e)
       → IfAgrees (of unit root rank) (program_of unit) (frame_number unit) related rank f scopes (Some e)
   condition_does scopes e known stands plain = condition_agrees unit root rank laws frames f naming scopes e stands.type known stands.has plain
 
-  if_condition_does : (scopes : List Scope) (e : Option Expression) → ScopesKnown unit f scopes → IfCondition unit.words scopes e → IfIsPlain e
+  if_condition_does : (scopes : List Scope) (e : Option Expression) → ScopesKnown unit f scopes
+      → IfCondition unit.words scopes e → IfIsPlain e
       → IfAgrees (of unit root rank) (program_of unit) (frame_number unit) related rank f scopes e
   if_condition_does scopes None known stands plain = tt
   if_condition_does scopes (Some e) known stands plain = condition_does scopes e known stands plain
 
   mutual
-    pub statement_does : (b c : Bool) (around : Around) (scopes : List Scope) (s : Statement) (n : ℕ) → AroundIs around b c → ScopesKnown unit f scopes
+    pub statement_does : (b c : Bool) (around : Around) (scopes : List Scope) (s : Statement) (n : ℕ)
+        → AroundIs around b c → ScopesKnown unit f scopes
         → StatementStands unit.words (definitions unit.externals) around scopes s → StatementIsPlain s → EachOf Own (locals_in unit.words f s) → EachOf Fine (calls_in s) → EachOf Framed (frames_in (program_of unit) f n s)
         → StatementDoes (of unit root rank) (program_of unit) (frame_number unit) related rank f b c scopes s n
     statement_does b c around scopes (Empty token) n is known stands plain own fine among = tt
@@ -127,7 +131,8 @@ module _ (unit : UnitTree) (root : List ℕ) (rank : ℕ → ℕ) (laws : ValueL
         return_stands_does unit root rank laws frames f naming scopes around.result value n is.gives known stands plain fine among
     statement_does b c around scopes (Does effect) n is known stands plain own fine among = effect_does unit root rank laws frames f naming scopes effect n known stands plain fine among
 
-    pub statements_do : (b c : Bool) (around : Around) (scopes : List Scope) (ss : Statements) (n : ℕ) → AroundIs around b c → ScopesKnown unit f scopes
+    pub statements_do : (b c : Bool) (around : Around) (scopes : List Scope) (ss : Statements) (n : ℕ)
+        → AroundIs around b c → ScopesKnown unit f scopes
         → StatementsStand unit.words (definitions unit.externals) around scopes ss → StatementsArePlain ss → EachOf Own (all_locals_in unit.words f ss) → EachOf Fine (called_in ss) → EachOf Framed (all_frames_in (program_of unit) f n ss)
         → StatementsDo (of unit root rank) (program_of unit) (frame_number unit) related rank f b c scopes ss n
     statements_do b c around scopes Nothing n is known stands plain own fine among = tt

@@ -51,7 +51,8 @@ use Rattle.lowering_simulation.proofs.Scopes.{ScopesKnown, scopes_see}
 -- ---- functions that run
 
 -- a store lets functions run
-running_after_store : (fs : List ℕ) (m : List RunEvent) (frame offset size : ℕ) (v : Value) → AreRunning fs m → AreRunning fs (events.Store frame offset size v ∷ m)
+running_after_store : (fs : List ℕ) (m : List RunEvent) (frame offset size : ℕ) (v : Value) → AreRunning fs m
+    → AreRunning fs (events.Store frame offset size v ∷ m)
 running_after_store [] m frame offset size v running = tt
 running_after_store (f ∷ fs) m frame offset size v running = (running.0, running_after_store fs m frame offset size v running.1)
 
@@ -59,14 +60,17 @@ abbrev pub StillRunning : List ℕ → Result (List RunEvent) RunFault → Type 
 StillRunning fs (Ok m) = AreRunning fs m
 StillRunning fs (Err fault) = ⊤
 
-running_stored : (fs : List ℕ) (m : List RunEvent) (v : Value) (at : Result Cell RunFault) → AreRunning fs m → StillRunning fs (stored_in m v at)
+running_stored : (fs : List ℕ) (m : List RunEvent) (v : Value) (at : Result Cell RunFault) → AreRunning fs m
+    → StillRunning fs (stored_in m v at)
 running_stored fs m v (Ok cell) running = running_after_store fs m cell.frame cell.offset (size_of v) v running
 running_stored fs m v (Err fault) running = tt
 
-pub running_store : (fs : List ℕ) (frames : List FrameShape) (m : List RunEvent) (place v : Value) → AreRunning fs m → StillRunning fs (store frames m place v)
+pub running_store : (fs : List ℕ) (frames : List FrameShape) (m : List RunEvent) (place v : Value) → AreRunning fs m
+    → StillRunning fs (store frames m place v)
 running_store fs frames m place v running = running_stored fs m v (cell_at frames m place (size_of v)) running
 
-running_after : (fs : List ℕ) (frames : List FrameShape) (m : List RunEvent) (to v : Result Value RunFault) → AreRunning fs m → StillRunning fs (after_store frames m to v)
+running_after : (fs : List ℕ) (frames : List FrameShape) (m : List RunEvent) (to v : Result Value RunFault)
+    → AreRunning fs m → StillRunning fs (after_store frames m to v)
 running_after fs frames m (Err fault) v running = tt
 running_after fs frames m (Ok place) (Err fault) running = tt
 running_after fs frames m (Ok place) (Ok v) running = running_store fs frames m place v running
@@ -90,23 +94,27 @@ module _ (unit : UnitTree) (root : List ℕ) (rank : ℕ → ℕ) where
     abbrev pub frame : List ℕ → ℕ
     frame = (of.numbers f).frame
 
-    pub here : (fs : List ℕ) (scopes : List Scope) (m h : List RunEvent) → ScopesKnown unit f scopes → Rel (f ∷ fs) m h → Here unit f frame scopes m h
+    pub here : (fs : List ℕ) (scopes : List Scope) (m h : List RunEvent) → ScopesKnown unit f scopes → Rel (f ∷ fs) m h
+        → Here unit f frame scopes m h
     here fs scopes m h known rel = record { frames = frames; naming = naming; see = scopes_see unit f scopes known; agree = rel.agree }
 
     -- ---- conditions
 
-    plain_agrees : (scopes : List Scope) (e : Expression) (t : Scalar) → ScopesKnown unit f scopes → HasType unit.words scopes e t → IsPlain e
+    plain_agrees : (scopes : List Scope) (e : Expression) (t : Scalar) → ScopesKnown unit f scopes
+        → HasType unit.words scopes e t → IsPlain e
         → PlainAgrees of program (frame_number unit) Rel rank f scopes e
     plain_agrees scopes e t known has plain fs m h rel =
         laws.tests unit f frame scopes m h e t (here fs scopes m h known rel) has plain ∙ bit_same (condition_of program scopes h e)
 
-    unary_agrees : (scopes : List Scope) (op : Unary) (token : ℕ) (operand : Expression) (t : Scalar) → ScopesKnown unit f scopes → HasType unit.words scopes (WithUnary op token operand) t
+    unary_agrees : (scopes : List Scope) (op : Unary) (token : ℕ) (operand : Expression) (t : Scalar)
+        → ScopesKnown unit f scopes → HasType unit.words scopes (WithUnary op token operand) t
         → (IsPlainCondition operand → ConditionAgrees of program (frame_number unit) Rel rank f scopes operand) → IsPlainCondition (WithUnary op token operand)
         → ConditionAgrees of program (frame_number unit) Rel rank f scopes (WithUnary op token operand)
     unary_agrees scopes unary.Not token operand t known has inner plain = inner plain
     unary_agrees scopes op token operand t known has inner plain = plain_agrees scopes (WithUnary op token operand) t known has plain
 
-    binary_agrees : (scopes : List Scope) (op : Binary) (token : ℕ) (left right : Expression) (t : Scalar) → ScopesKnown unit f scopes → HasType unit.words scopes (WithBinary op token left right) t
+    binary_agrees : (scopes : List Scope) (op : Binary) (token : ℕ) (left right : Expression) (t : Scalar)
+        → ScopesKnown unit f scopes → HasType unit.words scopes (WithBinary op token left right) t
         → (IsPlainCondition left → ConditionAgrees of program (frame_number unit) Rel rank f scopes left) → (IsPlainCondition right → ConditionAgrees of program (frame_number unit) Rel rank f scopes right)
         → IsPlainCondition (WithBinary op token left right) → ConditionAgrees of program (frame_number unit) Rel rank f scopes (WithBinary op token left right)
     binary_agrees scopes binary.Both token left right t known has on_left on_right plain = (on_left plain.0, on_right plain.1)
@@ -114,7 +122,8 @@ module _ (unit : UnitTree) (root : List ℕ) (rank : ℕ → ℕ) where
     binary_agrees scopes op token left right t known has on_left on_right plain =
         λ fs m h rel. laws.comparisons unit f frame scopes m h op token left right t (here fs scopes m h known rel) has (refl, plain.0, plain.1) ∙ bit_same (condition_of program scopes h (WithBinary op token left right))
 
-    pub condition_agrees : (scopes : List Scope) (e : Expression) (t : Scalar) → ScopesKnown unit f scopes → HasType unit.words scopes e t → IsPlainCondition e
+    pub condition_agrees : (scopes : List Scope) (e : Expression) (t : Scalar) → ScopesKnown unit f scopes
+        → HasType unit.words scopes e t → IsPlainCondition e
         → ConditionAgrees of program (frame_number unit) Rel rank f scopes e
     condition_agrees scopes e t known (constant {token = token} is) plain = plain_agrees scopes (OfConstant token) t known (constant is) tt
     condition_agrees scopes e t known (object {token = token} found is) plain = plain_agrees scopes (OfName token) t known (object found is) tt
@@ -156,7 +165,8 @@ module _ (unit : UnitTree) (root : List ℕ) (rank : ℕ → ℕ) where
     returned_is i (Ok v) h = refl
     returned_is i (Err fault) h = refl
 
-    gives_back : (fs : List ℕ) (m h : List RunEvent) (rest : List BodyItem) (i : Integer) (r : Valued) → (function_at program f).result ≡ outcomes.Integer i → Rel (f ∷ fs) m h → FitsValued (bits_of_type i) r
+    gives_back : (fs : List ℕ) (m h : List RunEvent) (rest : List BodyItem) (i : Integer) (r : Valued)
+        → (function_at program f).result ≡ outcomes.Integer i → Rel (f ∷ fs) m h → FitsValued (bits_of_type i) r
         → Ends fs rest (returned_end m (embedded_result (frame_number unit) r)) (returned_so (some_of r) h)
     gives_back fs m h rest i (Ok v) is rel fits =
         record { fits = subst (λ (o : Outcome). ResultFits o (Some v)) (sym is) fits; goes = record { later = m; rel = rel; same = refl } }

@@ -12,7 +12,8 @@ use Rattle.lowering_simulation.proofs.Comes.{Here, Reaches, Tests, body_then, ch
 
 module _ (of : ItemProgram) (program : Program) (place : ℕ → ℕ) (Rel : List ℕ → List RunEvent → List RunEvent → Type 0) (f : ℕ) (stack : List Waiting) where
   -- from wherever the histories are related at these items
-  abbrev pub From : Bool → Bool → ℕ → List BodyItem → List BodyItem → List BodyItem → List BodyItem → (History → Ending) → Type 0
+  abbrev pub From : Bool → Bool → ℕ → List BodyItem → List BodyItem → List BodyItem → List BodyItem → (History → Ending)
+      → Type 0
   From p q n ko ka k items go = (m h : List RunEvent) → Here of program place Rel f stack m h → Reaches of program place Rel f stack p q n ko ka k (ahead of f items m) (go h)
 
   abbrev pub Testing : List BodyItem → List BodyItem → List BodyItem → (History → Result Bool RunFault) → Type 0

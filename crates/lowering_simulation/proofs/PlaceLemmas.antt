@@ -15,7 +15,8 @@ some_there name [] items = let same : bytes_eq name name ≡ true = same_text na
 some_there name (Label l ∷ before) items = omega (arith, some_there name before items)
 some_there name (Do act ∷ before) items = some_there name before items
 
-after_there : (name : List ℕ) (before items : List BodyItem) → count name (before ++ Label name ∷ items) ≤ 1 → items_after name (before ++ Label name ∷ items) ≡ items
+after_there : (name : List ℕ) (before items : List BodyItem) → count name (before ++ Label name ∷ items) ≤ 1
+    → items_after name (before ++ Label name ∷ items) ≡ items
 after_there name [] items once = rw (same_text name) refl
 after_there name (Label l ∷ before) items once =
     by_test (bytes_eq l name)
@@ -24,7 +25,8 @@ after_there name (Label l ∷ before) items once =
 after_there name (Do act ∷ before) items once = after_there name before items once
 
 -- a label that stands at most once leads to what is after it
-pub leads : (all items : List BodyItem) (name : List ℕ) → count name all ≤ 1 → Stands all (Label name ∷ items) → items_after name all ≡ items
+pub leads : (all items : List BodyItem) (name : List ℕ) → count name all ≤ 1 → Stands all (Label name ∷ items)
+    → items_after name all ≡ items
 leads all items name once s =
     subst (λ (is : List BodyItem). items_after name is ≡ items) s.so
     (after_there name s.before items (subst (λ (is : List BodyItem). count name is ≤ 1) (sym s.so) once))

@@ -19,23 +19,27 @@ use Rattle.lowering_layout.specs.FrameLaws.{FramesHavePlaces, FunctionsAreLowere
 use Rattle.lowering_simulation.specs.Correct.{IsLowered, FramesArePlaced}
 
 -- the program is the numbered one
-is_numbered : (unit : UnitTree) (name : List ℕ) (program : NumberedProgram) → IsLowered unit name program → program ≡ numbered (lowered unit) name
+is_numbered : (unit : UnitTree) (name : List ℕ) (program : NumberedProgram) → IsLowered unit name program
+    → program ≡ numbered (lowered unit) name
 is_numbered unit name program is =
     is.kept.checked.numbers
     ∙ ap (λ (whole : WholeProgram). numbered whole is.kept.checked.root) is.whole
     ∙ ap (λ (root : List ℕ). numbered (lowered unit) root) is.root
 
-numbers_are : (unit : UnitTree) (f : ℕ) (func : alf.Function) → slice_get (lowered unit).funcs f ≡ Some func → numbers_of (lowered unit) f ≡ numbers_in (lowered unit) (first_frame (lowered unit) f) func
+numbers_are : (unit : UnitTree) (f : ℕ) (func : alf.Function) → slice_get (lowered unit).funcs f ≡ Some func
+    → numbers_of (lowered unit) f ≡ numbers_in (lowered unit) (first_frame (lowered unit) f) func
 numbers_are unit f func at = ap (λ (x : Option alf.Function). option_map_or (numbers_in (lowered unit) (first_frame (lowered unit) f)) x no_numbers) at
 
 module _ (places : FramesHavePlaces) (functions : FunctionsAreLowered) (names_are : NamesAreNumbered) (laid : ProgramsAreLaidOut) where
-  pub placed : (unit : UnitTree) (name : List ℕ) (program : NumberedProgram) → HasNames (program_of unit) → IsLowered unit name program → FramesArePlaced unit program
+  pub placed : (unit : UnitTree) (name : List ℕ) (program : NumberedProgram) → HasNames (program_of unit)
+      → IsLowered unit name program → FramesArePlaced unit program
   placed unit name program names is = record {
     frames = places unit names;
     naming = λ f low. one f (slice_get-get_or (functions_of unit) f no_function low);
     laid = subst (λ (p : NumberedProgram). IsLaidOut unit p) (sym (is_numbered unit name program is)) (laid unit name names);
   }
     where
-      one : (f : ℕ) {function : Function} → slice_get (functions_of unit) f ≡ Some function → IsNaming unit f (numbers_of (lowered unit) f).frame
+      one : (f : ℕ) {function : Function} → slice_get (functions_of unit) f ≡ Some function
+          → IsNaming unit f (numbers_of (lowered unit) f).frame
       one f {function} at =
           subst (λ (numbers : Numbers). IsNaming unit f numbers.frame) (sym (numbers_are unit f (lowered_function (program_of unit) f function) (functions unit f function at))) (names_are unit f function names at)

@@ -38,7 +38,8 @@ module _ (of : ItemProgram) (program : Program) (place : ℕ → ℕ) (Rel : Lis
     set = setting of program place Rel rank f stack w callees n n' deep goes below
 
     -- from these items on, with k after them, the run goes as the ending says
-    abbrev Goes : Bool → Bool → List BodyItem → List BodyItem → List BodyItem → List BodyItem → List RunEvent → Ending → Type 0
+    abbrev Goes : Bool → Bool → List BodyItem → List BodyItem → List BodyItem → List BodyItem → List RunEvent → Ending
+        → Type 0
     Goes p q ko ka k items m e = Reaches of program place Rel f stack p q n ko ka k (ahead of f items m) e
 
     abbrev Related : List RunEvent → List RunEvent → Type 0

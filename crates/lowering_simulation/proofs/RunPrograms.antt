@@ -36,7 +36,8 @@ stays_over : (of : ItemProgram) (u : ℕ) (o : runs.Outcome) → ticks of u (Don
 stays_over of zero o = refl
 stays_over of (suc u) o = stays_over of u o
 
-over_later : (of : ItemProgram) (start : Standing) (t u : ℕ) (o : runs.Outcome) → t ≤ u → ticks of t start ≡ Done o → ticks of u start ≡ Done o
+over_later : (of : ItemProgram) (start : Standing) (t u : ℕ) (o : runs.Outcome) → t ≤ u → ticks of t start ≡ Done o
+    → ticks of u start ≡ Done o
 over_later of start t u o le e =
     let whole : t + (u - t) ≡ u = omega arith in
     sym (ap (λ (n : ℕ). ticks of n start) whole) ∙ ticks_more of t (u - t) start ∙ ap (ticks of (u - t)) e ∙ stays_over of (u - t) o
@@ -45,7 +46,8 @@ abbrev outcome_at : Standing → Option runs.Outcome
 outcome_at (Run f stack end) = None
 outcome_at (Done o) = Some o
 
-one_outcome : (of : ItemProgram) (start : Standing) (t u : ℕ) (o p : runs.Outcome) → ticks of t start ≡ Done o → ticks of u start ≡ Done p → Some p ≡ Some o
+one_outcome : (of : ItemProgram) (start : Standing) (t u : ℕ) (o p : runs.Outcome) → ticks of t start ≡ Done o
+    → ticks of u start ≡ Done p → Some p ≡ Some o
 one_outcome of start t u o p e g =
     ⊎_elim
     (λ (lt : t < u). sym (ap outcome_at g) ∙ ap outcome_at (over_later of start t u o (omega arith) e))
@@ -62,7 +64,8 @@ module _ (of : ItemProgram) (program : Program) (place : ℕ → ℕ) (Rel : Lis
   ItemsTrack n (Some o) start = ComesTo of start o
   ItemsTrack n None start = IsLong of program place Rel start n
 
-  only_one : (start : Standing) (n count : ℕ) (x : Option runs.Outcome) (o : runs.Outcome) → ItemsTrack n x start → count ≤ n → ticks of count start ≡ Done o → x ≡ Some o
+  only_one : (start : Standing) (n count : ℕ) (x : Option runs.Outcome) (o : runs.Outcome) → ItemsTrack n x start
+      → count ≤ n → ticks of count start ≡ Done o → x ≡ Some o
   only_one start n count (Some p) o tracks le e = one_outcome of start count tracks.count o p e tracks.so
   only_one start n count None o tracks le e =
       absurd (subst IsOn (over_later of start count tracks.count o (let more : n ≤ tracks.count = tracks.enough in omega arith) e) tracks.so)
@@ -73,7 +76,9 @@ module _ (of : ItemProgram) (unit : UnitTree) (place : ℕ → ℕ) (Rel : List 
   given e = embedded_outcome place (outcome_of unit e)
 
   -- an ending of the root is an outcome
-  ending_tracks : (root n : ℕ) (start : Standing) (e : Ending) → CallReaches of (program_of unit) place Rel root [] n start e → ItemsTrack of (program_of unit) place Rel n (given e) start
+  ending_tracks : (root n : ℕ) (start : Standing) (e : Ending)
+      → CallReaches of (program_of unit) place Rel root [] n start e
+      → ItemsTrack of (program_of unit) place Rel n (given e) start
   ending_tracks root n start (Normal h) r = absurd r
   ending_tracks root n start (Broke h) r = absurd r
   ending_tracks root n start (Continued h) r = absurd r
@@ -107,7 +112,8 @@ module _ (of : ItemProgram) (unit : UnitTree) (place : ℕ → ℕ) (Rel : List 
         let r = (follow there.count o).is_over there.so in
         record { steps = r.count; over = r.over }
 
-    only_so : (t : ℕ) (o : runs.Outcome) → after of.program t start ≡ Over o → embedded_outcome place (result t) ≡ Some o
+    only_so : (t : ℕ) (o : runs.Outcome) → after of.program t start ≡ Over o
+        → embedded_outcome place (result t) ≡ Some o
     only_so t o e =
         let r = (follow t o).ends e in
         only_one of (program_of unit) place Rel (at_start of m) t r.count (embedded_outcome place (result t)) o (tracks t) r.few r.done

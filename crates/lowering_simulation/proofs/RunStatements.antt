@@ -43,14 +43,16 @@ module _ (of : ItemProgram) (program : Program) (place : ℕ → ℕ) (Rel : Lis
   all = of.items f
 
   -- from these items on, with k after them, the run goes as the ending says
-  abbrev Goes_on : Bool → Bool → ℕ → List BodyItem → List BodyItem → List BodyItem → List BodyItem → List RunEvent → Ending → Type 0
+  abbrev Goes_on : Bool → Bool → ℕ → List BodyItem → List BodyItem → List BodyItem → List BodyItem → List RunEvent
+      → Ending → Type 0
   Goes_on p q n ko ka k items m e = Reaches of program place Rel f stack p q n ko ka k (ahead of f items m) e
 
   abbrev Related : List RunEvent → List RunEvent → Type 0
   Related m h = Here of program place Rel f stack m h
 
   -- a jump after a statement
-  then_jump : (p q : Bool) (n : ℕ) (l : ℕ) (ko ka rest k : List BodyItem) (a : End) (r : Ending) → items_after (label code l) all ≡ k
+  then_jump : (p q : Bool) (n : ℕ) (l : ℕ) (ko ka rest k : List BodyItem) (a : End) (r : Ending)
+      → items_after (label code l) all ≡ k
       → Reaches of program place Rel f stack p q n ko ka (jump code l ∷ rest) a r → Reaches of program place Rel f stack p q n ko ka k a r
   then_jump p q n l ko ka rest k a (Normal h) e r =
       record {
@@ -77,7 +79,8 @@ module _ (of : ItemProgram) (program : Program) (place : ℕ → ℕ) (Rel : Lis
   then_label p q n l ko ka k a UsedUp r = r
 
   -- the label of a case does nothing
-  case_ahead : (s : Statement) (cases : ℕ) (items : List BodyItem) (m : List RunEvent) → ahead of f (if_case code s cases items) m ≡ ahead of f items m
+  case_ahead : (s : Statement) (cases : ℕ) (items : List BodyItem) (m : List RunEvent)
+      → ahead of f (if_case code s cases items) m ≡ ahead of f items m
   case_ahead (Case token c) cases items m = refl
   case_ahead (Default token) cases items m = refl
   case_ahead _ cases items m = refl
@@ -85,7 +88,8 @@ module _ (of : ItemProgram) (program : Program) (place : ℕ → ℕ) (Rel : Lis
   -- ---- switches
 
   -- where a switch leads for a case, after which an ending comes, or for none
-  abbrev Cased : Bool → Bool → ℕ → List BodyItem → List BodyItem → List BodyItem → List RunEvent → List ℕ → List ℕ → Option Ending → Type 0
+  abbrev Cased : Bool → Bool → ℕ → List BodyItem → List BodyItem → List BodyItem → List RunEvent → List ℕ → List ℕ
+      → Option Ending → Type 0
   Cased p q n ko ka k m to others None = to ≡ others
   Cased p q n ko ka k m to others (Some e) = Goes_on p q n ko ka k (items_after to all) m e
 
@@ -120,11 +124,13 @@ module _ (of : ItemProgram) (program : Program) (place : ℕ → ℕ) (Rel : Lis
     abbrev set : Setting
     set = setting of program place Rel rank f stack w callees n n' deep goes below
 
-    at : (l : ℕ) (k : List BodyItem) → l < 2 ^ 64 → Stands all (label_item code l ∷ k) → items_after (label code l) all ≡ k
+    at : (l : ℕ) (k : List BodyItem) → l < 2 ^ 64 → Stands all (label_item code l ∷ k)
+        → items_after (label code l) all ≡ k
     at l k low s = at_label of program place Rel rank f stack once l k low s
 
     -- the test of a condition
-    test_run : (scopes : List Scope) (e : Expression) (l : ℕ) (held failed : List ℕ) (kt kf k : List BodyItem) → l + condition_labels e ≤ 2 ^ 64
+    test_run : (scopes : List Scope) (e : Expression) (l : ℕ) (held failed : List ℕ) (kt kf k : List BodyItem)
+        → l + condition_labels e ≤ 2 ^ 64
         → Stands all (condition_items code scopes e l held failed k) → items_after held all ≡ kt → items_after failed all ≡ kf
         → ConditionAgrees of program place Rel rank f scopes e
         → Testing of program place Rel f stack kt kf (condition_items code scopes e l held failed k) (λ h. condition_of program scopes h e)

@@ -49,7 +49,8 @@ scopes_see unit f scopes known token e t found is = (found_entry (EntryKnown uni
 
 -- ---- locals
 
-named_known : (unit : UnitTree) (f : ℕ) (e : Entry) (scopes : List Scope) → EntryKnown unit f e → ScopesKnown unit f scopes → ScopesKnown unit f (with_name e scopes)
+named_known : (unit : UnitTree) (f : ℕ) (e : Entry) (scopes : List Scope) → EntryKnown unit f e
+    → ScopesKnown unit f scopes → ScopesKnown unit f (with_name e scopes)
 named_known unit f e [] one known = ((one, tt), tt)
 named_known unit f e (scope ∷ scopes) one known = ((one, known.0), known.1)
 
@@ -58,32 +59,38 @@ no_local_function kind (LocalInteger first) = refl
 no_local_function kind (LocalPointer first) = refl
 no_local_function kind (LocalArray size firsts) = refl
 
-pub local_known : (unit : UnitTree) (f : ℕ) (kind : Integer) (scopes : List Scope) (local : LocalTree) → ScopesKnown unit f scopes → Sees unit f (object_at (objects_of unit) local.name)
+pub local_known : (unit : UnitTree) (f : ℕ) (kind : Integer) (scopes : List Scope) (local : LocalTree)
+    → ScopesKnown unit f scopes → Sees unit f (object_at (objects_of unit) local.name)
     → ScopesKnown unit f (with_local kind scopes local)
 local_known unit f kind scopes local known sees =
     named_known unit f (record { token = local.name; bound = local_bound kind local.shape }) scopes
     (record { seen = λ t is. sees; agrees = λ o ps is. absurd (false≢true (sym (no_local_function kind local.shape) ∙ ap is_function is)) }) known
 
-locals_known : (unit : UnitTree) (f : ℕ) (kind : Integer) (scopes : List Scope) (locals : List LocalTree) → ScopesKnown unit f scopes
+locals_known : (unit : UnitTree) (f : ℕ) (kind : Integer) (scopes : List Scope) (locals : List LocalTree)
+    → ScopesKnown unit f scopes
     → EachOf (IsOwn unit f) (map (local_object unit.words f kind) locals) → ScopesKnown unit f (with_locals kind scopes locals)
 locals_known unit f kind scopes [] known own = known
 locals_known unit f kind scopes (local ∷ locals) known own = locals_known unit f kind (with_local kind scopes local) locals (local_known unit f kind scopes local known own.0) own.1
 
-pub statement_known : (unit : UnitTree) (f : ℕ) (scopes : List Scope) (s : Statement) → ScopesKnown unit f scopes → EachOf (IsOwn unit f) (locals_in unit.words f s) → ScopesKnown unit f (scopes_after scopes s)
+pub statement_known : (unit : UnitTree) (f : ℕ) (scopes : List Scope) (s : Statement) → ScopesKnown unit f scopes
+    → EachOf (IsOwn unit f) (locals_in unit.words f s) → ScopesKnown unit f (scopes_after scopes s)
 statement_known unit f scopes (Declares first kind locals) known own = locals_known unit f kind scopes locals known own
 statement_known unit f scopes _ known own = known
 
 -- ---- functions
 
-each_entry_both : (P Q : Entry → Type 0) (scope : Scope) → EachEntry P scope → EachEntry Q scope → EachEntry (λ e. P e × Q e) scope
+each_entry_both : (P Q : Entry → Type 0) (scope : Scope) → EachEntry P scope → EachEntry Q scope
+    → EachEntry (λ e. P e × Q e) scope
 each_entry_both P Q [] p q = tt
 each_entry_both P Q (e ∷ es) p q = ((p.0, q.0), each_entry_both P Q es p.1 q.1)
 
-entry_known : (unit : UnitTree) (f : ℕ) (scope : Scope) → EachEntry (EntrySeen unit f) scope → EachEntry (EntryAgrees unit) scope → EachEntry (EntryKnown unit f) scope
+entry_known : (unit : UnitTree) (f : ℕ) (scope : Scope) → EachEntry (EntrySeen unit f) scope
+    → EachEntry (EntryAgrees unit) scope → EachEntry (EntryKnown unit f) scope
 entry_known unit f [] seen agrees = tt
 entry_known unit f (e ∷ es) seen agrees = (record { seen = seen.0; agrees = agrees.0 }, entry_known unit f es seen.1 agrees.1)
 
-scope_known : (unit : UnitTree) (f : ℕ) (scopes : List Scope) → EachScope (EntrySeen unit f) scopes → EachScope (EntryAgrees unit) scopes → ScopesKnown unit f scopes
+scope_known : (unit : UnitTree) (f : ℕ) (scopes : List Scope) → EachScope (EntrySeen unit f) scopes
+    → EachScope (EntryAgrees unit) scopes → ScopesKnown unit f scopes
 scope_known unit f [] seen agrees = tt
 scope_known unit f (scope ∷ scopes) seen agrees = (entry_known unit f scope seen.0 agrees.0, scope_known unit f scopes seen.1 agrees.1)
 
@@ -102,24 +109,30 @@ module _ (unit : UnitTree) (names : HasNames (program_of unit)) where
   abbrev GlobalSeen : Entry → Type 0
   GlobalSeen e = (f : ℕ) → EntrySeen unit f e
 
-  global_seen : (o : Outcome) (name : ℕ) (shape : ShapeTree) → EachOf IsSeen (global_object unit.words (element_of o) name shape) → GlobalSeen (record { token = name; bound = global_bound o shape })
+  global_seen : (o : Outcome) (name : ℕ) (shape : ShapeTree)
+      → EachOf IsSeen (global_object unit.words (element_of o) name shape)
+      → GlobalSeen (record { token = name; bound = global_bound o shape })
   global_seen o name (GlobalInteger c) seen f t is = seen.0 f (inl refl)
   global_seen o name (GlobalArray size firsts) seen f t is = seen.0 f (inl refl)
   global_seen o name (FunctionOf params) seen f t is = absurd (none-some t is)
 
-  declarators_seen : (o : Outcome) (file : File) (ds : List DeclaratorTree) → EachOf IsSeen (globals_declared unit.words (element_of o) ds) → EachEntry GlobalSeen file.scope
+  declarators_seen : (o : Outcome) (file : File) (ds : List DeclaratorTree)
+      → EachOf IsSeen (globals_declared unit.words (element_of o) ds) → EachEntry GlobalSeen file.scope
       → EachEntry GlobalSeen (with_declarators o file ds).scope
   declarators_seen o file [] seen known = known
   declarators_seen o file (d ∷ ds) seen known =
       let parts = each_parts IsSeen (global_object unit.words (element_of o) d.name d.shape) (globals_declared unit.words (element_of o) ds) seen in
       declarators_seen o (with_global file d.name (global_bound o d.shape)) ds parts.1 (global_seen o d.name d.shape parts.0, known)
 
-  parameter_seen : (f : ℕ) (scope : Scope) (name : Option ℕ) (first : ℕ) (kind : Scalar) → EachEntry (EntrySeen unit f) scope → Sees unit f (object_at (objects_of unit) (option_map_or (λ n. n) name first))
+  parameter_seen : (f : ℕ) (scope : Scope) (name : Option ℕ) (first : ℕ) (kind : Scalar)
+      → EachEntry (EntrySeen unit f) scope
+      → Sees unit f (object_at (objects_of unit) (option_map_or (λ n. n) name first))
       → EachEntry (EntrySeen unit f) (with_parameter scope name kind)
   parameter_seen f scope None first kind known sees = known
   parameter_seen f scope (Some name) first kind known sees = ((λ t is. sees), known)
 
-  parameters_seen : (f : ℕ) (scope : Scope) (params : List Parameter) → EachEntry (EntrySeen unit f) scope → EachOf IsSeen (map (parameter_object f) params) → EachEntry (EntrySeen unit f) (with_parameters scope params)
+  parameters_seen : (f : ℕ) (scope : Scope) (params : List Parameter) → EachEntry (EntrySeen unit f) scope
+      → EachOf IsSeen (map (parameter_object f) params) → EachEntry (EntrySeen unit f) (with_parameters scope params)
   parameters_seen f scope [] known seen = known
   parameters_seen f scope (p ∷ ps) known seen = parameters_seen f (with_parameter scope p.name p.kind) ps (parameter_seen f scope p.name p.first p.kind known (seen.0 f (inr refl))) seen.1
 
@@ -133,7 +146,9 @@ module _ (unit : UnitTree) (names : HasNames (program_of unit)) where
     pub scopes_seen : EachScope (EntrySeen unit f) function.scopes
     pub locals_seen : EachOf IsSeen (all_locals_in unit.words f function.body)
 
-  block_seen : (k : ℕ) (file : File) (xs : List ExternalTree) → ExternalsStand unit.words (definitions unit.externals) file xs → EachOf IsSeen (globals_in unit.words xs) → EachOf IsSeen (owned_in unit.words k xs)
+  block_seen : (k : ℕ) (file : File) (xs : List ExternalTree)
+      → ExternalsStand unit.words (definitions unit.externals) file xs → EachOf IsSeen (globals_in unit.words xs)
+      → EachOf IsSeen (owned_in unit.words k xs)
       → EachEntry GlobalSeen file.scope → (i : ℕ) (function : meaning.Function) → slice_get (functions_in file xs) i ≡ Some function → BlockSeen (k + i) function
   block_seen k file [] stands globals owned known i function at = absurd (none-some function at)
   block_seen k file (Declaration first o ds ∷ xs) stands globals owned known i function at =
@@ -162,7 +177,8 @@ module _ (unit : UnitTree) (names : HasNames (program_of unit)) where
       subst (λ (n : ℕ). BlockSeen n function) (let e : k + 1 + i ≡ k + suc i = omega arith in e)
       (block_seen (k + 1) (external_after file (Definition first o name params body)) xs stands.1 globals own.1 ((λ f t is. absurd (none-some t is)), known) i function at)
 
-  own_locals : (f : ℕ) (os : List Object) → EachOf IsSeen os → EachOf (λ (o : Object). o.owner ≡ Some f) os → EachOf (IsOwn unit f) os
+  own_locals : (f : ℕ) (os : List Object) → EachOf IsSeen os → EachOf (λ (o : Object). o.owner ≡ Some f) os
+      → EachOf (IsOwn unit f) os
   own_locals f [] seen owned = tt
   own_locals f (o ∷ os) seen owned = (seen.0 f (inr owned.0), own_locals f os seen.1 owned.1)
 
@@ -172,7 +188,9 @@ pub record BlockKnown (unit : UnitTree) (f : ℕ) (function : meaning.Function) 
   pub known : ScopesKnown unit f function.scopes
   pub own : EachOf (IsOwn unit f) (all_locals_in unit.words f function.body)
 
-pub each_block : (unit : UnitTree) → HasNames (program_of unit) → UnitStands unit → (f : ℕ) (function : meaning.Function) → slice_get (functions_of unit) f ≡ Some function → BlockKnown unit f function
+pub each_block : (unit : UnitTree) → HasNames (program_of unit) → UnitStands unit
+    → (f : ℕ) (function : meaning.Function) → slice_get (functions_of unit) f ≡ Some function
+    → BlockKnown unit f function
 each_block unit names stands f function at =
     let parts = each_parts (IsSeen unit names) (globals_in unit.words unit.externals) (owned_in unit.words 0 unit.externals) (all_seen unit names) in
     let seen : BlockSeen unit names f function =

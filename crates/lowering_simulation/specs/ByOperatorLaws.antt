@@ -6,7 +6,8 @@ use Rattle.c_unit.specs.declared.expression.Binary.{Binary}
 use Rattle.c_unit.specs.declared.expression.Binary.TheVariants as binary
 use Rattle.c_lowered.specs.Conditions.{by_unary, by_binary}
 
-pub by_unary_both : {A B : Type 0} (P : A → B → Type 0) (op : Unary) (a c : A) (b d : B) → P a b → P c d → P (by_unary op a c) (by_unary op b d)
+pub by_unary_both : {A B : Type 0} (P : A → B → Type 0) (op : Unary) (a c : A) (b d : B) → P a b → P c d
+    → P (by_unary op a c) (by_unary op b d)
 by_unary_both P unary.Not a c b d negated plain = negated
 by_unary_both P unary.Complement a c b d negated plain = plain
 by_unary_both P unary.Minus a c b d negated plain = plain
@@ -14,7 +15,8 @@ by_unary_both P unary.Plus a c b d negated plain = plain
 by_unary_both P unary.Load a c b d negated plain = plain
 by_unary_both P unary.Address a c b d negated plain = plain
 
-pub by_binary_both : {A B : Type 0} (P : A → B → Type 0) (op : Binary) (a c e : A) (b d f : B) → P a b → P c d → P e f → P (by_binary op a c e) (by_binary op b d f)
+pub by_binary_both : {A B : Type 0} (P : A → B → Type 0) (op : Binary) (a c e : A) (b d f : B) → P a b → P c d → P e f
+    → P (by_binary op a c e) (by_binary op b d f)
 by_binary_both P binary.Multiply a c e b d f both either plain = plain
 by_binary_both P binary.Divide a c e b d f both either plain = plain
 by_binary_both P binary.Remainder a c e b d f both either plain = plain

@@ -35,7 +35,8 @@ pub record FramesArePlaced (unit : UnitTree) (program : NumberedProgram) : Type 
 
 -- `&&` and `||` stand in conditions alone, and a function has no more labels than names tell apart
 pub record UnitIsPlain (unit : UnitTree) : Type 0 where
-  pub plain : (f : ℕ) → f < length (program_of unit).functions → StatementsArePlain (function_at (program_of unit) f).body
+  pub plain : (f : ℕ) → f < length (program_of unit).functions
+      → StatementsArePlain (function_at (program_of unit) f).body
   pub few_labels : (f : ℕ) → labels_in_all (function_at (program_of unit) f).body ≤ 2 ^ 64
 
 abbrev pub LoweredProgramsHaveTheUnitsOutcome : Type 0

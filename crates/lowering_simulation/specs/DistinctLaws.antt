@@ -23,7 +23,8 @@ same_number within n k few low same =
     (append_cancel_left (function_name within.program within.function) (codes "::" ++ (codes "L" ++ decimal n)) (codes "::" ++ (codes "L" ++ decimal k)) same)))
 
 -- two labels are one exactly where their numbers are
-pub same_labels : (within : Within) (n k : ℕ) → n < 2 ^ 64 → k < 2 ^ 64 → bytes_eq (label within n) (label within k) ≡ (n == k)
+pub same_labels : (within : Within) (n k : ℕ) → n < 2 ^ 64 → k < 2 ^ 64
+    → bytes_eq (label within n) (label within k) ≡ (n == k)
 same_labels within n k few low =
     elim (cases_eq n k) [
       | inl same ↦ same_text_of (label within n) (label within k) (ap (label within) same) ∙ sym (eq-eqb n k same)

@@ -20,10 +20,13 @@ abbrev pub Apart : ℕ → List ℕ → Type 0
 Apart g [] = ⊤
 Apart g (k ∷ ks) = (k ≢ g) × Apart g ks
 
-pub record FunctionsDo (of : ItemProgram) (program : Program) (place : ℕ → ℕ) (Rel : List ℕ → List RunEvent → List RunEvent → Type 0) (rank : ℕ → ℕ) : Type 0 where
+pub record FunctionsDo (of : ItemProgram) (program : Program) (place : ℕ → ℕ)
+    (Rel : List ℕ → List RunEvent → List RunEvent → Type 0) (rank : ℕ → ℕ) : Type 0 where
   pub items : (g : ℕ) → g < length program.functions → of.items g ≡ function_items program g (function_at program g)
   pub room : (g : ℕ) → labels_in_all (function_at program g).body ≤ 2 ^ 64
   pub leaves : (g : ℕ) → g < length program.functions → StatementsDo of program place Rel rank g false false (function_at program g).scopes (function_at program g).body 0
-  pub enter : (g : ℕ) (fs : List ℕ) (m h : List RunEvent) (vs : List Value) → g < length program.functions → All (λ v. FitsValue (size_of v) v) vs → Rel fs m h
+  pub enter : (g : ℕ) (fs : List ℕ) (m h : List RunEvent) (vs : List Value) → g < length program.functions
+      → All (λ v. FitsValue (size_of v) v) vs → Rel fs m h
       → Rel (g ∷ fs) (runs.entered of.program g (map (embedded_value place) vs) m) (entered program g vs h)
-  pub leave : (g : ℕ) (fs : List ℕ) (m h : List RunEvent) → Apart g fs → Rel (g ∷ fs) m h → Rel fs (Leave g ∷ m) (Leave g ∷ h)
+  pub leave : (g : ℕ) (fs : List ℕ) (m h : List RunEvent) → Apart g fs → Rel (g ∷ fs) m h
+      → Rel fs (Leave g ∷ m) (Leave g ∷ h)

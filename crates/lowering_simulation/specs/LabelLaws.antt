@@ -59,7 +59,8 @@ module _ (within : Within) (k : ℕ) (low : k < 2 ^ 64) where
   value_times scopes (OfExpression e) n made rest plain = plain (value_of within.program scopes e) rest
   value_times scopes (OfCall call) n made rest plain = plain (call_value within call n) rest
 
-  effect_times : (scopes : List Scope) (e : EffectTree) (n : ℕ) (rest : List BodyItem) → times (effect_items within scopes e n rest) ≡ times rest
+  effect_times : (scopes : List Scope) (e : EffectTree) (n : ℕ) (rest : List BodyItem)
+      → times (effect_items within scopes e n rest) ≡ times rest
   effect_times scopes (Assigns to token value) n rest =
       value_times scopes value n (assign (kind_of within.program.words scopes to) (address_of within.program scopes to)) rest (λ e items. refl)
   effect_times scopes (Updates to op token e) n rest = refl
@@ -95,11 +96,13 @@ module _ (within : Within) (k : ℕ) (low : k < 2 ^ 64) where
       (locals_items within kind (with_local kind scopes local) locals (n + calls_in_shape within.program local.shape) rest)
       ∙ locals_times kind (with_local kind scopes local) locals (n + calls_in_shape within.program local.shape) rest
 
-  effect_if_times : (scopes : List Scope) (e : Option EffectTree) (n : ℕ) (rest : List BodyItem) → times (effect_if within scopes e n rest) ≡ times rest
+  effect_if_times : (scopes : List Scope) (e : Option EffectTree) (n : ℕ) (rest : List BodyItem)
+      → times (effect_if within scopes e n rest) ≡ times rest
   effect_if_times scopes None n rest = refl
   effect_if_times scopes (Some e) n rest = effect_times scopes e n rest
 
-  return_times : (scopes : List Scope) (value : Option ValueTree) (n : ℕ) (rest : List BodyItem) → times (return_items within scopes value n rest) ≡ times rest
+  return_times : (scopes : List Scope) (value : Option ValueTree) (n : ℕ) (rest : List BodyItem)
+      → times (return_items within scopes value n rest) ≡ times rest
   return_times scopes None n rest = refl
   return_times scopes (Some value) n rest = value_times scopes value n (return_item within) rest (λ e items. refl)
 
@@ -113,7 +116,8 @@ module _ (within : Within) (k : ℕ) (low : k < 2 ^ 64) where
   no_labels n rest items same m is few = let at : m ≡ n = omega arith in rw (at, same) (omega arith)
 
   -- a second condition after a label
-  second : (n many more : ℕ) (first last rest : List BodyItem) → Range (suc n) (label_item within n ∷ last) first many → Range (suc n + many) rest last more
+  second : (n many more : ℕ) (first last rest : List BodyItem) → Range (suc n) (label_item within n ∷ last) first many
+      → Range (suc n + many) rest last more
       → Range n rest first (suc (many + more))
   second n many more first last rest a b m is few =
       omega (arith, step n (suc n) (omega arith) (omega arith), a (suc n + many) refl (omega arith), b m (omega arith) few)
@@ -312,7 +316,8 @@ unfolding below
 below_none k = rw (le-ltb k 0 (omega arith)) refl
 
 -- each label that a function allocates stands once
-pub label_stands : (program : Program) (f : ℕ) (function : Function) (k : ℕ) → k < labels_in_all function.body → labels_in_all function.body ≤ 2 ^ 64
+pub label_stands : (program : Program) (f : ℕ) (function : Function) (k : ℕ) → k < labels_in_all function.body
+    → labels_in_all function.body ≤ 2 ^ 64
     → count (label (record { program = program; function = f }) k) (function_items program f function) ≡ 1
 label_stands program f function k low few =
     let within : Within = record { program = program; function = f } in

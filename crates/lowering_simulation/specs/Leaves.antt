@@ -1,6 +1,7 @@
--- What the leaves of statements do: tests, single items and calls, each as the unit says.
--- A function f of a unit is lowered to items of an item program. `Rel fs m h` relates a history of the item program to one of the unit, where the
--- functions fs are running, the newest first; object o lies in frame `place o`; and calls lead to functions of a lower rank.
+-- What the leaves of statements do: tests, single items and calls, each as the unit says. A function f of a unit is
+-- lowered to items of an item program. `Rel fs m h` relates a history of the item program to one of the unit, where the
+-- functions fs are running, the newest first; object o lies in frame `place o`; and calls lead to functions of a lower
+-- rank.
 --   ResultFits o v           the value is one that a function gives whose result is o
 --   TestAgrees e test        the expression gives 1 where the test holds, 0 where it does not, or the same fault
 --   ConditionAgrees scopes e so do the tests of a condition
@@ -157,7 +158,8 @@ module _ (of : ItemProgram) (program : Program) (place : ℕ → ℕ) (Rel : Lis
 
   -- ---- values and effects
 
-  abbrev pub ValueDoes : List Scope → ValueTree → ℕ → (NamedExpression → BodyItem) → (Valued → History → Ending) → Type 0
+  abbrev pub ValueDoes : List Scope → ValueTree → ℕ → (NamedExpression → BodyItem) → (Valued → History → Ending)
+      → Type 0
   ValueDoes scopes (OfExpression e) n made go = ItemDoes (made (value_of program scopes e)) (λ h. go (meaning.value_of program scopes h e) h)
   ValueDoes scopes (OfCall call) n made go =
       CallDoes scopes call n (λ rest. made (call_value within call n) ∷ rest) (λ v h. go (given (function_at program (callee program call)).result v) h)

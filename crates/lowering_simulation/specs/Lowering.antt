@@ -27,9 +27,10 @@ LoweringIsRight = (unit : UnitTree) (name ranks : List ℕ) (program : NumberedP
     → AreCells unit rows words cells
     → IsSameOutcome program (start program rows words) (frame_number unit) (λ n. outcome unit name n cells)
 
--- the run that starts with these words of the input rows and the unit from the cells that hold these words come to one outcome; these are
--- the only such cells, so that no other input has a part in it
-pub record HasOutcomeOfCells (unit : UnitTree) (name : List ℕ) (program : NumberedProgram) (rows : List InputRow) (words : List ℕ) : Type 0 where
+-- the run that starts with these words of the input rows and the unit from the cells that hold these words come to one
+-- outcome; these are the only such cells, so that no other input has a part in it
+pub record HasOutcomeOfCells (unit : UnitTree) (name : List ℕ) (program : NumberedProgram) (rows : List InputRow)
+    (words : List ℕ) : Type 0 where
   pub cells : List Cell
   pub hold : AreCells unit rows words cells
   pub only : (others : List Cell) → AreCells unit rows words others → others ≡ cells

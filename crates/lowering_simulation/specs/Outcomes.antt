@@ -21,7 +21,8 @@ pub record IsOver (program : NumberedProgram) (start : Moment) (o : runs.Outcome
   pub over : after program steps start ≡ Over o
 
 -- `given n` is the outcome of the unit where each loop makes at most n turns at each of its executions
-pub record IsSameOutcome (program : NumberedProgram) (start : Moment) (place : ℕ → ℕ) (given : ℕ → ProgramOutcome) : Type 0 where
+pub record IsSameOutcome (program : NumberedProgram) (start : Moment) (place : ℕ → ℕ)
+    (given : ℕ → ProgramOutcome) : Type 0 where
   -- an outcome of the unit is one of the run
   pub comes : (n : ℕ) (o : runs.Outcome) → embedded_outcome place (given n) ≡ Some o → IsOver program start o
   -- an outcome of the run is one of the unit, in as many turns as steps

@@ -38,7 +38,8 @@ module _ (all : List BodyItem) (within : Within) where
   after_value scopes (OfCall call) n made rest s =
       tail all rest (made (call_value within call n)) (tail all (made (call_value within call n) ∷ rest) _ s)
 
-  pub after_effect : (scopes : List Scope) (e : EffectTree) (n : ℕ) (rest : List BodyItem) → Stands all (effect_items within scopes e n rest) → Stands all rest
+  pub after_effect : (scopes : List Scope) (e : EffectTree) (n : ℕ) (rest : List BodyItem)
+      → Stands all (effect_items within scopes e n rest) → Stands all rest
   after_effect scopes (Assigns to token value) n rest s =
       after_value scopes value n (assign (kind_of within.program.words scopes to) (address_of within.program scopes to)) rest s
   after_effect scopes (Updates to op token e) n rest s = tail all rest _ s
@@ -76,11 +77,13 @@ module _ (all : List BodyItem) (within : Within) where
       after_locals kind inner locals d rest
       (after_shape inner kind (frame_of within.program local.name) local.shape n (locals_items within kind inner locals d rest) s)
 
-  pub after_effect_if : (scopes : List Scope) (e : Option EffectTree) (n : ℕ) (rest : List BodyItem) → Stands all (effect_if within scopes e n rest) → Stands all rest
+  pub after_effect_if : (scopes : List Scope) (e : Option EffectTree) (n : ℕ) (rest : List BodyItem)
+      → Stands all (effect_if within scopes e n rest) → Stands all rest
   after_effect_if scopes None n rest s = s
   after_effect_if scopes (Some e) n rest s = after_effect scopes e n rest s
 
-  after_return : (scopes : List Scope) (value : Option ValueTree) (n : ℕ) (rest : List BodyItem) → Stands all (return_items within scopes value n rest) → Stands all rest
+  after_return : (scopes : List Scope) (value : Option ValueTree) (n : ℕ) (rest : List BodyItem)
+      → Stands all (return_items within scopes value n rest) → Stands all rest
   after_return scopes None n rest s = tail all rest _ s
   after_return scopes (Some value) n rest s = after_value scopes value n (return_item within) rest s
 
@@ -113,7 +116,8 @@ module _ (all : List BodyItem) (within : Within) where
   after_condition_if scopes None n held failed rest s = tail all rest _ s
   after_condition_if scopes (Some e) n held failed rest s = after_condition scopes e n (label within held) (label within failed) rest s
 
-  pub after_case : (s : Statement) (cases : ℕ) (rest : List BodyItem) → Follows all within rest (if_case within s cases rest)
+  pub after_case : (s : Statement) (cases : ℕ) (rest : List BodyItem)
+      → Follows all within rest (if_case within s cases rest)
   after_case (Case token c) cases rest s = tail all rest _ s
   after_case (Default token) cases rest s = tail all rest _ s
   after_case _ cases rest s = s

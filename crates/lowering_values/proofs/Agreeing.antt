@@ -46,7 +46,8 @@ pub record Operators : Type 0 where
   pub elements : ElementsGive
 
 -- the address of an object that the function sees
-pub object_gives : (unit : UnitTree) (f : ℕ) (frame : List ℕ → ℕ) (m : List RunEvent) (token offset : ℕ) → IsNaming unit f frame → Sees unit f (object_at (objects_of unit) token)
+pub object_gives : (unit : UnitTree) (f : ℕ) (frame : List ℕ → ℕ) (m : List RunEvent) (token offset : ℕ)
+    → IsNaming unit f frame → Sees unit f (object_at (objects_of unit) token)
     → Gives unit frame m (Address (frame_of (program_of unit) token) offset) (Ok (values.Ptr (object_at (objects_of unit) token) offset))
 object_gives unit f frame m token offset naming sees = ap (λ (n : ℕ). Ok (values.Ptr n offset)) (naming.objects (object_at (objects_of unit) token) sees)
 
@@ -66,7 +67,8 @@ abbrev Sides : UnitTree → List Scope → Expression → Type 0
 Sides unit scopes (WithBinary op token left right) = TypedSides unit scopes left right
 Sides unit scopes e = ⊤
 
-sides_of : (unit : UnitTree) (scopes : List Scope) (e : Expression) (t : Scalar) → HasType unit.words scopes e t → Sides unit scopes e
+sides_of : (unit : UnitTree) (scopes : List Scope) (e : Expression) (t : Scalar) → HasType unit.words scopes e t
+    → Sides unit scopes e
 sides_of unit scopes e t (constant {token = token} {t = u} is) = tt
 sides_of unit scopes e t (object {token = token} {e = entry} {t = u} found is) = tt
 sides_of unit scopes e t (within {token = token} {inner = inner} {t = u} of) = tt
@@ -91,14 +93,17 @@ module _ (laws : Operators) (sizes : Sizes) (unit : UnitTree) (f : ℕ) (frame :
 
   -- ---- loads
 
-  read_gives : (size : ℕ) (at : NamedExpression) (v : Valued) → G at v → G (Load size at) (on_value (λ place. load (shapes_of P) h place size) v)
+  read_gives : (size : ℕ) (at : NamedExpression) (v : Valued) → G at v
+      → G (Load size at) (on_value (λ place. load (shapes_of P) h place size) v)
   read_gives size at v g = ap (λ (place : Valued). load_from (frames_of unit) m size place) g ∙ read v
     where
-      read : (v : Valued) → load_from (frames_of unit) m size (E v) ≡ E (on_value (λ place. load (shapes_of P) h place size) v)
+      read : (v : Valued)
+          → load_from (frames_of unit) m size (E v) ≡ E (on_value (λ place. load (shapes_of P) h place size) v)
       read (Ok place) = laws.loads (frame_number unit) (is_object_frame unit) (shapes_of P) (frames_of unit) m h place size here.frames here.agree
       read (Err fault) = refl
 
-  pub loaded_gives : (t : Scalar) (at : NamedExpression) (v : Valued) → G at v → G (lowered.loaded t at) (on_value (meaning.loaded P h t) v)
+  pub loaded_gives : (t : Scalar) (at : NamedExpression) (v : Valued) → G at v
+      → G (lowered.loaded t at) (on_value (meaning.loaded P h t) v)
   loaded_gives (scalars.Integer i) at v g =
       laws.extends (frame_number unit) (frames_of unit) frame m i (Load (bits_of_type i) at) (on_value (λ place. load (shapes_of P) h place (bits_of_type i)) v) (read_gives (bits_of_type i) at v g)
       ∙ ap E (once v)
@@ -108,7 +113,8 @@ module _ (laws : Operators) (sizes : Sizes) (unit : UnitTree) (f : ℕ) (frame :
       once (Err fault) = refl
   loaded_gives (scalars.Pointer i) at v g = read_gives 32 at v g ∙ ap E (once v)
     where
-      once : (v : Valued) → on_value (λ place. load (shapes_of P) h place 32) v ≡ on_value (meaning.loaded P h (scalars.Pointer i)) v
+      once : (v : Valued)
+          → on_value (λ place. load (shapes_of P) h place 32) v ≡ on_value (meaning.loaded P h (scalars.Pointer i)) v
       once (Ok place) = refl
       once (Err fault) = refl
 
@@ -120,21 +126,25 @@ module _ (laws : Operators) (sizes : Sizes) (unit : UnitTree) (f : ℕ) (frame :
   abbrev place_at : Option Entry → ℕ → Value
   place_at found token = values.Ptr (object_at (objects_of unit) (declared_at found token)) 0
 
-  bound_gives : (b : Bound) (t : Scalar) (at : NamedExpression) (place : Value) → value_type b ≡ Some t → G at (Ok place) → G (lowered.bound_value b at) (meaning.bound_value P h b place)
+  bound_gives : (b : Bound) (t : Scalar) (at : NamedExpression) (place : Value) → value_type b ≡ Some t
+      → G at (Ok place) → G (lowered.bound_value b at) (meaning.bound_value P h b place)
   bound_gives (Variable u) t at place typed g = loaded_gives u at (Ok place) g
   bound_gives (Array i) t at place typed g = g
   bound_gives (Function o ps) t at place typed g = absurd (let bad : None ≡ Some t = typed in cc)
 
-  entry_gives : (token : ℕ) (e : Entry) (t : Scalar) → look_up unit.words scopes token ≡ Some e → value_type e.bound ≡ Some t → G (place_in (Some e) token) (Ok (place_at (Some e) token))
+  entry_gives : (token : ℕ) (e : Entry) (t : Scalar) → look_up unit.words scopes token ≡ Some e
+      → value_type e.bound ≡ Some t → G (place_in (Some e) token) (Ok (place_at (Some e) token))
   entry_gives token e t found typed = object_gives unit f frame m e.token 0 here.naming (here.see token e t found typed)
 
-  name_gives : (token : ℕ) (e : Entry) (t : Scalar) → look_up unit.words scopes token ≡ Some e → value_type e.bound ≡ Some t
+  name_gives : (token : ℕ) (e : Entry) (t : Scalar) → look_up unit.words scopes token ≡ Some e
+      → value_type e.bound ≡ Some t
       → G (lowered.value_of P scopes (OfName token)) (meaning.value_of P scopes h (OfName token))
   name_gives token e t found typed =
       subst (λ (x : Option Entry). G (lowered.name_value x (place_in x token)) (meaning.name_value P h x (place_at x token))) (sym found)
       (bound_gives e.bound t (place_in (Some e) token) (place_at (Some e) token) typed (entry_gives token e t found typed))
 
-  name_place : (token : ℕ) (e : Entry) (t : Scalar) → look_up unit.words scopes token ≡ Some e → value_type e.bound ≡ Some t
+  name_place : (token : ℕ) (e : Entry) (t : Scalar) → look_up unit.words scopes token ≡ Some e
+      → value_type e.bound ≡ Some t
       → G (lowered.address_of P scopes (OfName token)) (meaning.address_of P scopes h (OfName token))
   name_place token e t found typed =
       subst (λ (x : Option Entry). G (place_in x token) (Ok (place_at x token))) (sym found) (entry_gives token e t found typed)
@@ -163,7 +173,8 @@ module _ (laws : Operators) (sizes : Sizes) (unit : UnitTree) (f : ℕ) (frame :
       loaded_gives (scalars.Integer (pointee (kind_of unit.words scopes operand))) (lowered.value_of P scopes operand) (meaning.value_of P scopes h operand) g
   unary_gives unary.Address operand place t r typed g placed = placed (place_true place t r typed)
 
-  unary_place : (op : Unary) (operand : Expression) → is_load op ≡ true → G (lowered.value_of P scopes operand) (meaning.value_of P scopes h operand)
+  unary_place : (op : Unary) (operand : Expression) → is_load op ≡ true
+      → G (lowered.value_of P scopes operand) (meaning.value_of P scopes h operand)
       → G (lowered.value_of P scopes operand) (meaning.unary_address op (meaning.value_of P scopes h operand))
   unary_place unary.Load operand is g = g
   unary_place unary.Not operand is g = absurd (let bad : false ≡ true = is in cc)
@@ -172,7 +183,8 @@ module _ (laws : Operators) (sizes : Sizes) (unit : UnitTree) (f : ℕ) (frame :
   unary_place unary.Plus operand is g = absurd (let bad : false ≡ true = is in cc)
   unary_place unary.Address operand is g = absurd (let bad : false ≡ true = is in cc)
 
-  element_gives : (base index : Expression) → G (lowered.value_of P scopes base) (meaning.value_of P scopes h base) → G (lowered.value_of P scopes index) (meaning.value_of P scopes h index)
+  element_gives : (base index : Expression) → G (lowered.value_of P scopes base) (meaning.value_of P scopes h base)
+      → G (lowered.value_of P scopes index) (meaning.value_of P scopes h index)
       → G (lowered.element_address (kind_of unit.words scopes base) (kind_of unit.words scopes index) (lowered.value_of P scopes base) (lowered.value_of P scopes index))
       (meaning.element_address (kind_of unit.words scopes base) (meaning.value_of P scopes h base) (meaning.value_of P scopes h index))
   element_gives base index b i =
@@ -183,7 +195,8 @@ module _ (laws : Operators) (sizes : Sizes) (unit : UnitTree) (f : ℕ) (frame :
   fits e = value_fits sizes P scopes h here.agree.sound e
 
   mutual
-    pub values_agree : (e : Expression) (t : Scalar) → HasType unit.words scopes e t → IsPlain e → G (lowered.value_of P scopes e) (meaning.value_of P scopes h e)
+    pub values_agree : (e : Expression) (t : Scalar) → HasType unit.words scopes e t → IsPlain e
+        → G (lowered.value_of P scopes e) (meaning.value_of P scopes h e)
     values_agree e t (constant {token = token} {t = u} is) plain = constant_gives (worth_at unit.words token)
     values_agree e t (object {token = token} {e = entry} {t = u} found is) plain = name_gives token entry u found is
     values_agree e t (within {token = token} {inner = inner} {t = u} of) plain = values_agree inner u of plain
@@ -201,7 +214,8 @@ module _ (laws : Operators) (sizes : Sizes) (unit : UnitTree) (f : ℕ) (frame :
         (lowered.value_of P scopes left) (lowered.value_of P scopes right) (meaning.value_of P scopes h left) (meaning.value_of P scopes h right)
         here.frames.apart plain.0 (values_agree left a of_left plain.1) (values_agree right b of_right plain.2) (fits right)
 
-    pub addresses_agree : (e : Expression) (t : Scalar) → HasType unit.words scopes e t → IsPlain e → designates unit.words scopes e ≡ true
+    pub addresses_agree : (e : Expression) (t : Scalar) → HasType unit.words scopes e t → IsPlain e
+        → designates unit.words scopes e ≡ true
         → G (lowered.address_of P scopes e) (meaning.address_of P scopes h e)
     addresses_agree e t (constant {token = token} {t = u} is) plain placed = absurd (let bad : false ≡ true = placed in cc)
     addresses_agree e t (object {token = token} {e = entry} {t = u} found is) plain placed = name_place token entry u found is
@@ -221,7 +235,8 @@ module _ (laws : Operators) (sizes : Sizes) (unit : UnitTree) (f : ℕ) (frame :
   test_agrees e t typed plain =
       laws.tests (frame_number unit) (frames_of unit) frame m (lowered.value_of P scopes e) (meaning.value_of P scopes h e) (values_agree e t typed plain)
 
-  pub comparison_agrees : (op : Binary) (token : ℕ) (left right : Expression) (t : Scalar) → HasType unit.words scopes (WithBinary op token left right) t → IsPlain (WithBinary op token left right)
+  pub comparison_agrees : (op : Binary) (token : ℕ) (left right : Expression) (t : Scalar)
+      → HasType unit.words scopes (WithBinary op token left right) t → IsPlain (WithBinary op token left right)
       → X (lowered.test_of op (kind_of unit.words scopes left) (kind_of unit.words scopes right) (lowered.value_of P scopes left) (lowered.value_of P scopes right))
       ≡ as_bit (meaning.condition_of P scopes h (WithBinary op token left right))
   comparison_agrees op token left right t typed plain =

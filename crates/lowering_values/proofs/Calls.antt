@@ -54,13 +54,16 @@ use Rattle.lowering_values.proofs.Stores.{size_is}
 -- ---- functions entered
 
 -- a value that is put into the frame of an object
-pub put : EventsAgree → SizesStay → (unit : UnitTree) (m h : List RunEvent) (o : ℕ) (v : Value) → FramesStand unit → IsWhole v → Agrees unit m h
+pub put : EventsAgree → SizesStay → (unit : UnitTree) (m h : List RunEvent) (o : ℕ) (v : Value) → FramesStand unit
+    → IsWhole v → Agrees unit m h
     → Agrees unit (Store (frame_number unit o) 0 (size_of (embed unit v)) (embed unit v) ∷ m) (Store o 0 (size_of v) v ∷ h)
 put events stay unit m h o v stand fits agree =
     subst (λ (size : ℕ). Agrees unit (Store (frame_number unit o) 0 size (embed unit v) ∷ m) (Store o 0 (size_of v) v ∷ h)) (sym (stay (frame_number unit) v))
     ((events (frame_number unit) (is_object_frame unit) m h agree).put o 0 (size_of v) v (stand.told o) fits)
 
-arguments_put : EventsAgree → SizesStay → (unit : UnitTree) (ps : List Parameter) (vs : List Value) (m h : List RunEvent) → FramesStand unit → All IsWhole vs → Agrees unit m h
+arguments_put : EventsAgree → SizesStay
+    → (unit : UnitTree) (ps : List Parameter) (vs : List Value) (m h : List RunEvent) → FramesStand unit
+    → All IsWhole vs → Agrees unit m h
     → Agrees unit (with_arguments (map (parameter_frame unit) ps) (map (embed unit) vs) m) (programs.with_arguments (program_of unit) ps vs h)
 arguments_put events stay unit [] vs m h stand fits agree = agree
 arguments_put events stay unit (p ∷ ps) [] m h stand fits agree = agree
@@ -68,7 +71,8 @@ arguments_put events stay unit (p ∷ ps) (v ∷ vs) m h stand fits agree =
     arguments_put events stay unit ps vs (Store (parameter_frame unit p) 0 (size_of (embed unit v)) (embed unit v) ∷ m) (Store (object_at (objects_of unit) (token_of_parameter p)) 0 (size_of v) v ∷ h)
     stand (All-tail IsWhole v vs fits) (put events stay unit m h (object_at (objects_of unit) (token_of_parameter p)) v stand (All-head IsWhole v vs fits) agree)
 
-pub enters_agree : EventsAgree → SizesStay → (unit : UnitTree) (program : NumberedProgram) (g : ℕ) (vs : List Value) (m h : List RunEvent)
+pub enters_agree : EventsAgree → SizesStay
+    → (unit : UnitTree) (program : NumberedProgram) (g : ℕ) (vs : List Value) (m h : List RunEvent)
     → IsLaidOut unit program → All IsWhole vs → Agrees unit m h
     → Agrees unit (entered program g (map (embed unit) vs) m) (programs.entered (program_of unit) g vs h)
 enters_agree events stay unit program g vs m h laid fits agree =
@@ -86,7 +90,8 @@ result_read : (unit : UnitTree) (frame : List ℕ → ℕ) (m : List RunEvent) (
 result_read unit frame m name i v value sized read is =
     subst (λ (size : ℕ). load (frames_of unit) m (values.Ptr (frame name) 0) size ≡ Ok value) sized read ∙ ap Ok is
 
-pub results_agree : FurtherFrame → SizesStay → ExtendsGive → ExtendsFit → (unit : UnitTree) (f : ℕ) (frame : List ℕ → ℕ) (m h : List RunEvent) (k : ℕ) (i : Integer) (v : Value)
+pub results_agree : FurtherFrame → SizesStay → ExtendsGive → ExtendsFit
+    → (unit : UnitTree) (f : ℕ) (frame : List ℕ → ℕ) (m h : List RunEvent) (k : ℕ) (i : Integer) (v : Value)
     → FramesStand unit → IsNaming unit f frame
     → Contains (frames_in_body unit f) (record { name = call_name (program_of unit) f k; bits = bits_of_type i })
     → Agrees unit m h → is_running m f ≡ true → FitsValue (bits_of_type i) v → ResultAgrees unit f frame m h k i v
@@ -125,7 +130,8 @@ results_agree further stay extends extends_fit unit f frame m h k i v stand nami
 
 -- ---- outputs
 
-told_same : (place : ℕ → ℕ) (r : Valued) → result_ok (embedded_result place r) ≡ option_map (embedded_value place) (result_ok r)
+told_same : (place : ℕ → ℕ) (r : Valued)
+    → result_ok (embedded_result place r) ≡ option_map (embedded_value place) (result_ok r)
 told_same place (Ok v) = refl
 told_same place (Err fault) = refl
 
@@ -162,7 +168,8 @@ module _ (loads : LoadsAgree) (unit : UnitTree) (program : NumberedProgram) (m h
 
 -- ---- starts
 
-inputs_agree : EventsAgree → (unit : UnitTree) (rows : List InputRow) (words : List ℕ) (cells : List programs.Cell) (m h : List RunEvent)
+inputs_agree : EventsAgree
+    → (unit : UnitTree) (rows : List InputRow) (words : List ℕ) (cells : List programs.Cell) (m h : List RunEvent)
     → FramesStand unit → AreCells unit rows words cells → Agrees unit m h → Agrees unit (with_inputs rows words m) (programs.with_cells cells h)
 inputs_agree events unit rows words cells m h stand none agree = agree
 inputs_agree events unit rows words cells m h stand (cell row rows_after word words_after object cells_after at small rest) agree =
@@ -171,7 +178,8 @@ inputs_agree events unit rows words cells m h stand (cell row rows_after word wo
     (subst (λ (frame : ℕ). Agrees unit (Store frame row.offset row.size (values.Int row.size word) ∷ m) (Store object row.offset row.size (values.Int row.size word) ∷ h)) (sym at)
     ((events (frame_number unit) (is_object_frame unit) m h agree).put object row.offset row.size (values.Int row.size word) (stand.told object) (refl, small)))
 
-pub starts_agree : EventsAgree → SizesStay → (unit : UnitTree) (program : NumberedProgram) (rows : List InputRow) (words : List ℕ) (cells : List programs.Cell)
+pub starts_agree : EventsAgree → SizesStay
+    → (unit : UnitTree) (program : NumberedProgram) (rows : List InputRow) (words : List ℕ) (cells : List programs.Cell)
     → IsLaidOut unit program → AreCells unit rows words cells
     → Agrees unit (start_history program rows words) (programs.start_history unit program.root cells)
 starts_agree events stay unit program rows words cells laid are =
@@ -186,7 +194,8 @@ module _ (cuts : CutsGive) (cut_words : WordsAreCut) (unit : UnitTree) (frame : 
   G e v = Gives unit frame m e v
 
   -- a number of 32 bits, cut to a type
-  cut_number : (kind : Integer) (e : NamedExpression) (z : ℤ) → G e (Ok (values.Int 32 (word 32 z))) → G (lowered.cut kind e) (Ok (values.Int (bits_of_type kind) (word (bits_of_type kind) z)))
+  cut_number : (kind : Integer) (e : NamedExpression) (z : ℤ) → G e (Ok (values.Int 32 (word 32 z)))
+      → G (lowered.cut kind e) (Ok (values.Int (bits_of_type kind) (word (bits_of_type kind) z)))
   cut_number kind e z g = cuts (frame_number unit) (frames_of unit) frame m (Rattle.c_unit.specs.declared.types.Scalar.TheVariants.Integer kind) e (Ok (values.Int 32 (word 32 z))) g ∙ lowest kind
     where
       lowest : (kind : Integer) → embedded_result (frame_number unit) (Rattle.c_meaning.specs.Values.cut (bits_of_type kind) (values.Int 32 (word 32 z))) ≡ Ok (values.Int (bits_of_type kind) (word (bits_of_type kind) z))
@@ -197,7 +206,8 @@ module _ (cuts : CutsGive) (cut_words : WordsAreCut) (unit : UnitTree) (frame : 
       lowest Short = ap (λ (w : ℕ). Ok (values.Int 16 w)) (cut_words 16 32 z (omega arith))
       lowest UnsignedShort = ap (λ (w : ℕ). Ok (values.Int 16 w)) (cut_words 16 32 z (omega arith))
 
-  constant_plain : (w : Worth) → number_of w < 2 ^ 32 → G (lowered.constant_of w) (Ok (values.Int 32 (word 32 (pos (number_of w)))))
+  constant_plain : (w : Worth) → number_of w < 2 ^ 32
+      → G (lowered.constant_of w) (Ok (values.Int 32 (word 32 (pos (number_of w)))))
   constant_plain w small = same w ∙ ap (λ (n : ℕ). Ok (values.Int 32 n)) (sym (mod-eq_of_lt small))
     where
       same : (w : Worth) → value_in unit frame m (lowered.constant_of w) ≡ Ok (values.Int 32 (number_of w))

@@ -12,7 +12,8 @@ use Rattle.c_rules.specs.Names.{number_of, worth_of_text}
 abbrev IsSmall : Worth → Type 0
 IsSmall w = number_of w < 2 ^ 32
 
-if_small : (test : Bool) (v w : Worth) → (test ≡ true → IsSmall v) → (test ≡ false → IsSmall w) → IsSmall (if test then v else w)
+if_small : (test : Bool) (v w : Worth) → (test ≡ true → IsSmall v) → (test ≡ false → IsSmall w)
+    → IsSmall (if test then v else w)
 if_small true v w first second = first refl
 if_small false v w first second = second refl
 

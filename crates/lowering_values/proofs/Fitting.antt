@@ -43,7 +43,8 @@ module _ (sizes : Sizes) (program : Program) (scopes : List Scope) (h : List Run
   abbrev Fit : Valued → Type 0
   Fit r = FitsResult 32 r
 
-  read_fits : (place : Value) (size : ℕ) → IsCell size → (r : Valued) → load (shapes_of program) h place size ≡ r → FitsResult size r
+  read_fits : (place : Value) (size : ℕ) → IsCell size → (r : Valued) → load (shapes_of program) h place size ≡ r
+      → FitsResult size r
   read_fits place size cell (Ok v) is = sizes.loads (shapes_of program) h place v size sound cell is
   read_fits place size cell (Err fault) is = tt
 
@@ -68,7 +69,8 @@ module _ (sizes : Sizes) (program : Program) (scopes : List Scope) (h : List Run
   name_fits None token = tt
   name_fits (Some e) token = bound_fits e.bound token
 
-  unary_fits : (op : Unary) (t : Scalar) (value place : Valued) → Fit value → Fit place → Fit (unary_value program h op t value place)
+  unary_fits : (op : Unary) (t : Scalar) (value place : Valued) → Fit value → Fit place
+      → Fit (unary_value program h op t value place)
   unary_fits unary.Not t value place fits placed = (sizes.unaries value).not_fits
   unary_fits unary.Complement t value place fits placed = (sizes.unaries value).complement_fits
   unary_fits unary.Minus t value place fits placed = (sizes.unaries value).minus_fits

@@ -65,7 +65,8 @@ left_word (scalars.Pointer a) = tt
 two_same : (op : Op) (sizes : List ℕ) (x x' y y' : Valued) → x ≡ x' → y ≡ y' → two op sizes x y ≡ two op sizes x' y'
 two_same op sizes x x' y y' e f = ap (λ (z : Valued). two op sizes z y) e ∙ ap (λ (z : Valued). two op sizes x' z) f
 
-three_same : (op : Op) (sizes : List ℕ) (x x' y y' c : Valued) → x ≡ x' → y ≡ y' → three op sizes x y c ≡ three op sizes x' y' c
+three_same : (op : Op) (sizes : List ℕ) (x x' y y' c : Valued) → x ≡ x' → y ≡ y'
+    → three op sizes x y c ≡ three op sizes x' y' c
 three_same op sizes x x' y y' c e f = ap (λ (z : Valued). three op sizes z y c) e ∙ ap (λ (z : Valued). three op sizes x' z c) f
 
 module _ (place : ℕ → ℕ) (frames : List FrameShape) (frame : List ℕ → ℕ) (m : List RunEvent) where
@@ -92,7 +93,8 @@ module _ (place : ℕ → ℕ) (frames : List FrameShape) (frame : List ℕ → 
 
   -- ---- products
 
-  product_gives : (i : Integer) → IsWord i → (left right : NamedExpression) (l r : Valued) → G left l → G right r → G (lowered.product i left right) (on_both (product i) l r)
+  product_gives : (i : Integer) → IsWord i → (left right : NamedExpression) (l r : Valued) → G left l → G right r
+      → G (lowered.product i left right) (on_both (product i) l r)
   product_gives Int is left right l r gl gr =
       ap (λ (z : Valued). one ops.Trunc (64 ∷ 32 ∷ []) z) (two_same ops.SMul D (X left) (E l) (X right) (E r) gl gr) ∙ signed_product place l r
   product_gives UnsignedInt is left right l r gl gr =
@@ -110,14 +112,17 @@ module _ (place : ℕ → ℕ) (frames : List FrameShape) (frame : List ℕ → 
   one_product Short is v w = absurd is
   one_product UnsignedShort is v w = absurd is
 
-  times : (i : Integer) → IsWord i → (w : Value) (r : Valued) → on_both (product i) r (Ok w) ≡ on_value (λ v. product Int v w) r
+  times : (i : Integer) → IsWord i → (w : Value) (r : Valued)
+      → on_both (product i) r (Ok w) ≡ on_value (λ v. product Int v w) r
   times i is w (Ok v) = one_product i is v w
   times i is w (Err fault) = refl
 
-  times_gives : (i : Integer) → IsWord i → (n : ℕ) (e : NamedExpression) (r : Valued) → G e r → G (lowered.product i e (lowered.whole n)) (on_value (λ v. product Int v (values.Int 32 n)) r)
+  times_gives : (i : Integer) → IsWord i → (n : ℕ) (e : NamedExpression) (r : Valued) → G e r
+      → G (lowered.product i e (lowered.whole n)) (on_value (λ v. product Int v (values.Int 32 n)) r)
   times_gives i is n e r g = product_gives i is e (lowered.whole n) r (Ok (values.Int 32 n)) g refl ∙ ap E (times i is (values.Int 32 n) r)
 
-  scaled_gives : (i : Integer) (t : Scalar) (e : NamedExpression) (r : Valued) → G e r → G (lowered.scaled i t e) (meaning.scaled i r)
+  scaled_gives : (i : Integer) (t : Scalar) (e : NamedExpression) (r : Valued) → G e r
+      → G (lowered.scaled i t e) (meaning.scaled i r)
   scaled_gives Char t e r g = g
   scaled_gives UnsignedChar t e r g = g
   scaled_gives Short t e r g = times_gives (left_type t) (left_word t) 2 e r g
@@ -158,10 +163,12 @@ module _ (place : ℕ → ℕ) (frames : List FrameShape) (frame : List ℕ → 
   divided_by w (Ok v) = refl
   divided_by w (Err fault) = refl
 
-  part_gives : (n : ℕ) (e : NamedExpression) (r : Valued) → G e r → two ops.SDiv D (X e) (Ok (values.Int 32 n)) ≡ E (on_value (λ v. quotient Int v (values.Int 32 n)) r)
+  part_gives : (n : ℕ) (e : NamedExpression) (r : Valued) → G e r
+      → two ops.SDiv D (X e) (Ok (values.Int 32 n)) ≡ E (on_value (λ v. quotient Int v (values.Int 32 n)) r)
   part_gives n e r g = quotient_gives Int tt e (lowered.whole n) r (Ok (values.Int 32 n)) g refl ∙ ap E (divided_by (values.Int 32 n) r)
 
-  counted_gives : (i : Integer) (e : NamedExpression) (r : Valued) → G e r → G (lowered.counted i e) (meaning.counted i r)
+  counted_gives : (i : Integer) (e : NamedExpression) (r : Valued) → G e r
+      → G (lowered.counted i e) (meaning.counted i r)
   counted_gives Char e r g = g
   counted_gives UnsignedChar e r g = g
   counted_gives Short e r g = part_gives 2 e r g
@@ -171,24 +178,29 @@ module _ (place : ℕ → ℕ) (frames : List FrameShape) (frame : List ℕ → 
 
   -- ---- sums and differences
 
-  sum_gives : (left right : NamedExpression) (l r : Valued) → G left l → G right r → G (lowered.sum left right) (on_both meaning.sum l r)
+  sum_gives : (left right : NamedExpression) (l r : Valued) → G left l → G right r
+      → G (lowered.sum left right) (on_both meaning.sum l r)
   sum_gives left right l r gl gr = three_same ops.Add S (X left) (E l) (X right) (E r) (Ok (values.Int 1 0)) gl gr ∙ sums place l r
 
-  pub elements_give : (t of : Scalar) (base index : NamedExpression) (b i : Valued) → G base b → G index i → G (lowered.element_address t of base index) (element_address t b i)
+  pub elements_give : (t of : Scalar) (base index : NamedExpression) (b i : Valued) → G base b → G index i
+      → G (lowered.element_address t of base index) (element_address t b i)
   elements_give t of base index b i gb gi =
       sum_gives base (lowered.scaled (pointee t) of index) b (meaning.scaled (pointee t) i) gb (scaled_gives (pointee t) of index i gi)
 
-  sum_value_gives : (a b : Scalar) (left right : NamedExpression) (l r : Valued) → G left l → G right r → G (lowered.sum_value a b left right) (meaning.sum_value a b l r)
+  sum_value_gives : (a b : Scalar) (left right : NamedExpression) (l r : Valued) → G left l → G right r
+      → G (lowered.sum_value a b left right) (meaning.sum_value a b l r)
   sum_value_gives (scalars.Integer a) (scalars.Integer b) left right l r gl gr = sum_gives left right l r gl gr
   sum_value_gives (scalars.Integer a) (scalars.Pointer b) left right l r gl gr =
       sum_gives (lowered.scaled b (scalars.Integer a) left) right (meaning.scaled b l) r (scaled_gives b (scalars.Integer a) left l gl) gr
   sum_value_gives (scalars.Pointer a) b left right l r gl gr = sum_gives left (lowered.scaled a b right) l (meaning.scaled a r) gl (scaled_gives a b right r gr)
 
   module _ (apart : IsApart place) where
-    difference_gives : (left right : NamedExpression) (l r : Valued) → G left l → G right r → FitsResult 32 r → G (lowered.difference left right) (on_both difference l r)
+    difference_gives : (left right : NamedExpression) (l r : Valued) → G left l → G right r → FitsResult 32 r
+        → G (lowered.difference left right) (on_both difference l r)
     difference_gives left right l r gl gr fits = three_same ops.Sub S (X left) (E l) (X right) (E r) (Ok (values.Int 1 1)) gl gr ∙ differences place apart l r fits
 
-    difference_value_gives : (a b : Scalar) (left right : NamedExpression) (l r : Valued) → G left l → G right r → FitsResult 32 r → G (lowered.difference_value a b left right) (meaning.difference_value a b l r)
+    difference_value_gives : (a b : Scalar) (left right : NamedExpression) (l r : Valued) → G left l → G right r
+        → FitsResult 32 r → G (lowered.difference_value a b left right) (meaning.difference_value a b l r)
     difference_value_gives (scalars.Integer a) b left right l r gl gr fits = difference_gives left right l r gl gr fits
     difference_value_gives (scalars.Pointer a) (scalars.Integer b) left right l r gl gr fits =
         difference_gives left (lowered.scaled a (scalars.Integer b) right) l (meaning.scaled a r) gl (scaled_gives a (scalars.Integer b) right r gr) (scaled_fits a r fits)
@@ -225,19 +237,22 @@ module _ (place : ℕ → ℕ) (frames : List FrameShape) (frame : List ℕ → 
     compared_bit : (op : Op) (f : Value → Value → Valued) (left right : NamedExpression) (l r : Valued) (is : C op f l r) → G left l → G right r → two op S (X left) (X right) ≡ as_bit is.test
     compared_bit op f left right l r is gl gr = two_same op S (X left) (E l) (X right) (E r) gl gr ∙ is.runs
 
-    compared_value : (op : Op) (f : Value → Value → Valued) (left right : NamedExpression) (l r : Valued) → C op f l r → G left l → G right r
+    compared_value : (op : Op) (f : Value → Value → Valued) (left right : NamedExpression) (l r : Valued) → C op f l r
+        → G left l → G right r
         → G (lowered.bit_value (lowered.compared op left right)) (on_both f l r)
     compared_value op f left right l r is gl gr =
         ap (λ (z : Valued). one ops.ZExt (1 ∷ 32 ∷ []) z) (compared_bit op f left right l r is gl gr) ∙ bit_extended place is.test ∙ ap E (sym is.means)
 
-    compared_test : (op : Op) (f : Value → Value → Valued) (left right : NamedExpression) (l r : Valued) → C op f l r → G left l → G right r
+    compared_test : (op : Op) (f : Value → Value → Valued) (left right : NamedExpression) (l r : Valued) → C op f l r
+        → G left l → G right r
         → X (lowered.compared op left right) ≡ as_bit (truth_of (on_both f l r))
     compared_test op f left right l r is gl gr =
         compared_bit op f left right l r is gl gr ∙ ap as_bit (sym (tested is.test) ∙ ap truth_of (sym is.means))
 
     -- ---- every operator
 
-    pub operators_give : (op : Binary) (a b : Scalar) (left right : NamedExpression) (l r : Valued) → is_of_conditions op ≡ false → G left l → G right r → FitsResult 32 r
+    pub operators_give : (op : Binary) (a b : Scalar) (left right : NamedExpression) (l r : Valued)
+        → is_of_conditions op ≡ false → G left l → G right r → FitsResult 32 r
         → G (lowered.binary_value op a b left right) (meaning.binary_value op a b l r)
     operators_give binary.Multiply a b left right l r plain gl gr fits = product_gives (shared a b) (shared_word a b) left right l r gl gr
     operators_give binary.Divide a b left right l r plain gl gr fits = quotient_gives (shared a b) (shared_word a b) left right l r gl gr
@@ -264,12 +279,14 @@ module _ (place : ℕ → ℕ) (frames : List FrameShape) (frame : List ℕ → 
   tests_give e v g = ap (λ (z : Valued). two ops.Neq S z (Ok (values.Int 32 0))) g ∙ is_not_zero place v
 
   module _ (apart : IsApart place) where
-    of_value : (op : Binary) (a b : Scalar) (left right : NamedExpression) (l r : Valued) → is_of_conditions op ≡ false → G left l → G right r → FitsResult 32 r
+    of_value : (op : Binary) (a b : Scalar) (left right : NamedExpression) (l r : Valued) → is_of_conditions op ≡ false
+        → G left l → G right r → FitsResult 32 r
         → X (lowered.is_true (lowered.binary_value op a b left right)) ≡ as_bit (truth_of (meaning.binary_value op a b l r))
     of_value op a b left right l r plain gl gr fits =
         tests_give (lowered.binary_value op a b left right) (meaning.binary_value op a b l r) (operators_give apart op a b left right l r plain gl gr fits)
 
-    pub comparisons_give : (op : Binary) (a b : Scalar) (left right : NamedExpression) (l r : Valued) → is_of_conditions op ≡ false → G left l → G right r → FitsResult 32 r
+    pub comparisons_give : (op : Binary) (a b : Scalar) (left right : NamedExpression) (l r : Valued)
+        → is_of_conditions op ≡ false → G left l → G right r → FitsResult 32 r
         → X (lowered.test_of op a b left right) ≡ as_bit (truth_of (meaning.binary_value op a b l r))
     comparisons_give binary.Less a b left right l r plain gl gr fits = compared_test apart (lowered.signed_or ops.SLt ops.ULt (shared a b)) (order int_lt (is_signed (shared a b))) left right l r (less apart (is_signed (shared a b)) l r) gl gr
     comparisons_give binary.Greater a b left right l r plain gl gr fits = compared_test apart (lowered.signed_or ops.SGt ops.UGt (shared a b)) (order (λ x y. int_lt y x) (is_signed (shared a b))) left right l r (more apart (is_signed (shared a b)) l r) gl gr
@@ -292,7 +309,8 @@ module _ (place : ℕ → ℕ) (frames : List FrameShape) (frame : List ℕ → 
 
   -- ---- one operand, and conversions
 
-  pub unaries_give : (e at : NamedExpression) (v : Valued) (t : Scalar) → G e v → GiveUnaries place frames frame m e at v t
+  pub unaries_give : (e at : NamedExpression) (v : Valued) (t : Scalar) → G e v
+      → GiveUnaries place frames frame m e at v t
   unaries_give e at v t g = record {
     not_gives = ap (λ (z : Valued). one ops.ZExt (1 ∷ 32 ∷ []) (two ops.Eq S z (Ok (values.Int 32 0)))) g ∙ not_value place v;
     complement_gives = ap (λ (z : Valued). one ops.Not S z) g ∙ at_one place ops.Not S complement (complemented place) v;
@@ -307,7 +325,8 @@ module _ (place : ℕ → ℕ) (frames : List FrameShape) (frame : List ℕ → 
   extended_is Int e = refl
   extended_is UnsignedInt e = refl
 
-  pub extends_give : (i : Integer) (e : NamedExpression) (v : Valued) → G e v → G (lowered.extended i e) (on_value (widened i) v)
+  pub extends_give : (i : Integer) (e : NamedExpression) (v : Valued) → G e v
+      → G (lowered.extended i e) (on_value (widened i) v)
   extends_give i e v g = extended_is i e ∙ ap (λ (z : Valued). extended_result place i z) g ∙ extends place i v
 
   cut_is : (i : Integer) (e : NamedExpression) → X (lowered.cut i e) ≡ cut_result place i (X e)
@@ -318,22 +337,26 @@ module _ (place : ℕ → ℕ) (frames : List FrameShape) (frame : List ℕ → 
   cut_is Int e = refl
   cut_is UnsignedInt e = refl
 
-  cut_gives : (i : Integer) (e : NamedExpression) (v : Valued) → G e v → G (lowered.cut i e) (on_value (cut (bits_of_type i)) v)
+  cut_gives : (i : Integer) (e : NamedExpression) (v : Valued) → G e v
+      → G (lowered.cut i e) (on_value (cut (bits_of_type i)) v)
   cut_gives i e v g = cut_is i e ∙ ap (λ (z : Valued). cut_result place i z) g ∙ cuts place i v
 
   as_it_is : (v : Valued) → v ≡ on_value (λ x. Ok x) v
   as_it_is (Ok x) = refl
   as_it_is (Err fault) = refl
 
-  pub cuts_give : (t : Scalar) (e : NamedExpression) (v : Valued) → G e v → G (lowered.cut_to t e) (on_value (cut_to t) v)
+  pub cuts_give : (t : Scalar) (e : NamedExpression) (v : Valued) → G e v
+      → G (lowered.cut_to t e) (on_value (cut_to t) v)
   cuts_give (scalars.Integer i) e v g = cut_gives i e v g
   cuts_give (scalars.Pointer i) e v g = g ∙ ap E (as_it_is v)
 
-  cut_then : (i : Integer) (v : Valued) → on_value (widened i) (on_value (cut (bits_of_type i)) v) ≡ on_value (cast_to (scalars.Integer i)) v
+  cut_then : (i : Integer) (v : Valued)
+      → on_value (widened i) (on_value (cut (bits_of_type i)) v) ≡ on_value (cast_to (scalars.Integer i)) v
   cut_then i (Ok x) = refl
   cut_then i (Err fault) = refl
 
-  pub casts_give : (t : Scalar) (e : NamedExpression) (v : Valued) → G e v → G (lowered.cast_to t e) (on_value (cast_to t) v)
+  pub casts_give : (t : Scalar) (e : NamedExpression) (v : Valued) → G e v
+      → G (lowered.cast_to t e) (on_value (cast_to t) v)
   casts_give (scalars.Integer i) e v g =
       extends_give i (lowered.cut i e) (on_value (cut (bits_of_type i)) v) (cut_gives i e v g) ∙ ap E (cut_then i v)
   casts_give (scalars.Pointer i) e v g = g ∙ ap E (as_it_is v)

@@ -24,11 +24,13 @@ module _ (place : ℕ → ℕ) where
   abbrev seen : Option Byte → Option Byte
   seen byte = option_map (embedded_byte place) byte
 
-  any_seen : (test : Option Byte → Bool) → ((byte : Option Byte) → test (seen byte) ≡ test byte) → (bytes : List (Option Byte)) → list_any test (map seen bytes) ≡ list_any test bytes
+  any_seen : (test : Option Byte → Bool) → ((byte : Option Byte) → test (seen byte) ≡ test byte)
+      → (bytes : List (Option Byte)) → list_any test (map seen bytes) ≡ list_any test bytes
   any_seen test same [] = refl
   any_seen test same (byte ∷ bytes) = rw (same byte, any_seen test same bytes) refl
 
-  all_seen : (test : Option Byte → Bool) → ((byte : Option Byte) → test (seen byte) ≡ test byte) → (bytes : List (Option Byte)) → list_all test (map seen bytes) ≡ list_all test bytes
+  all_seen : (test : Option Byte → Bool) → ((byte : Option Byte) → test (seen byte) ≡ test byte)
+      → (bytes : List (Option Byte)) → list_all test (map seen bytes) ≡ list_all test bytes
   all_seen test same [] = refl
   all_seen test same (byte ∷ bytes) = rw (same byte, all_seen test same bytes) refl
 
@@ -77,16 +79,19 @@ module _ (place : ℕ → ℕ) where
   by_cases false false true first size word = refl
   by_cases false false false first size word = refl
 
-  contents_seen : (bytes : List (Option Byte)) (offset size : ℕ) → contents (map seen bytes) offset size ≡ embedded_result place (contents bytes offset size)
+  contents_seen : (bytes : List (Option Byte)) (offset size : ℕ)
+      → contents (map seen bytes) offset size ≡ embedded_result place (contents bytes offset size)
   contents_seen bytes offset size =
       rw (any_seen is_empty empty_seen bytes, all_seen (is_from offset size) (from_seen offset size) bytes, any_seen of_pointer pointer_seen bytes, first_seen bytes, word_seen bytes)
       (by_cases (list_any is_empty bytes) (list_all (is_from offset size) bytes) (list_any of_pointer bytes) (first_value bytes) size (word_of bytes))
 
-  all_bytes : (outer inner : ℕ → Option Byte) → ((byte : ℕ) → outer byte ≡ seen (inner byte)) → (bytes : List ℕ) → map outer bytes ≡ map seen (map inner bytes)
+  all_bytes : (outer inner : ℕ → Option Byte) → ((byte : ℕ) → outer byte ≡ seen (inner byte)) → (bytes : List ℕ)
+      → map outer bytes ≡ map seen (map inner bytes)
   all_bytes outer inner same [] = refl
   all_bytes outer inner same (byte ∷ bytes) = rw (same byte, all_bytes outer inner same bytes) refl
 
-  pub cell_seen : (outer inner : ℕ → Option Byte) (offset size : ℕ) → ((byte : ℕ) → outer byte ≡ option_map (embedded_byte place) (inner byte))
+  pub cell_seen : (outer inner : ℕ → Option Byte) (offset size : ℕ)
+      → ((byte : ℕ) → outer byte ≡ option_map (embedded_byte place) (inner byte))
       → cell_in outer offset size ≡ embedded_result place (cell_in inner offset size)
   cell_seen outer inner offset size same =
       ap (λ (bytes : List (Option Byte)). contents bytes offset size) (all_bytes outer inner same (bytes_of offset size))
@@ -95,23 +100,27 @@ module _ (place : ℕ → ℕ) where
 -- ---- loads
 
 module _ (place : ℕ → ℕ) (is_embedded : ℕ → Bool) where
-  pub runs_alike : (m h : List RunEvent) (function : ℕ) → Agrees place is_embedded m h → is_running m function ≡ is_running h function
+  pub runs_alike : (m h : List RunEvent) (function : ℕ) → Agrees place is_embedded m h
+      → is_running m function ≡ is_running h function
   runs_alike m h function agrees =
       sym (only_running is_embedded m function) ∙ ap (λ (events : List RunEvent). is_running events function) agrees.same ∙ embedded_running place h function
 
-  active_alike : (m h : List RunEvent) (owner : Option ℕ) → Agrees place is_embedded m h → is_active owner m ≡ is_active owner h
+  active_alike : (m h : List RunEvent) (owner : Option ℕ) → Agrees place is_embedded m h
+      → is_active owner m ≡ is_active owner h
   active_alike m h None agrees = refl
   active_alike m h (Some function) agrees = runs_alike m h function agrees
 
   -- what a byte of an embedded frame comes from
-  origin_alike : (inner outer : List FrameShape) (m h : List RunEvent) (owner : Option ℕ) (frame byte : ℕ) → Places place is_embedded inner outer → Agrees place is_embedded m h
+  origin_alike : (inner outer : List FrameShape) (m h : List RunEvent) (owner : Option ℕ) (frame byte : ℕ)
+      → Places place is_embedded inner outer → Agrees place is_embedded m h
       → origin owner (place frame) m byte ≡ option_map (embedded_byte place) (origin owner frame h byte)
   origin_alike inner outer m h owner frame byte places agrees =
       sym (elsewhere is_embedded owner (place frame) byte (places.told frame) m)
       ∙ ap (λ (events : List RunEvent). origin owner (place frame) events byte) agrees.same
       ∙ embedded_origin place places.apart owner frame byte h
 
-  pub load_alike : (inner outer : List FrameShape) (m h : List RunEvent) (at : Value) (size : ℕ) → Places place is_embedded inner outer → Agrees place is_embedded m h
+  pub load_alike : (inner outer : List FrameShape) (m h : List RunEvent) (at : Value) (size : ℕ)
+      → Places place is_embedded inner outer → Agrees place is_embedded m h
       → load outer m (embedded_value place at) size ≡ embedded_result place (load inner h at size)
   load_alike inner outer m h (Int own word) size places agrees = refl
   load_alike inner outer m h (Ptr frame offset) size places agrees =
@@ -136,7 +145,8 @@ module _ (place : ℕ → ℕ) (is_embedded : ℕ → Bool) where
 
   -- ---- stores
 
-  put_alike : (m h : List RunEvent) (frame offset size : ℕ) (value : Value) → Agrees place is_embedded m h → is_embedded (place frame) ≡ true → FitsValue size value
+  put_alike : (m h : List RunEvent) (frame offset size : ℕ) (value : Value) → Agrees place is_embedded m h
+      → is_embedded (place frame) ≡ true → FitsValue size value
       → Agrees place is_embedded (Store (place frame) offset size (embedded_value place value) ∷ m) (Store frame offset size value ∷ h)
   put_alike m h frame offset size value agrees told fits = record {
     same = ap (λ (test : Bool). if test then Store (place frame) offset size (embedded_value place value) ∷ embedded_only is_embedded m else embedded_only is_embedded m) told
@@ -155,7 +165,8 @@ module _ (place : ℕ → ℕ) (is_embedded : ℕ → Bool) where
     };
   }
 
-  pub store_alike : (inner outer : List FrameShape) (m h : List RunEvent) (at value : Value) → Places place is_embedded inner outer → Agrees place is_embedded m h
+  pub store_alike : (inner outer : List FrameShape) (m h : List RunEvent) (at value : Value)
+      → Places place is_embedded inner outer → Agrees place is_embedded m h
       → FitsValue (size_of value) value
       → AgreeAfter place is_embedded (store outer m (embedded_value place at) (embedded_value place value)) (store inner h at value)
   store_alike inner outer m h (Int own word) value places agrees fits = refl
@@ -189,7 +200,8 @@ module _ (place : ℕ → ℕ) (is_embedded : ℕ → Bool) where
 
   -- ---- further frames
 
-  pub kept_in : StoreThenLoad → (outer : List FrameShape) (m h : List RunEvent) (frame : ℕ) (shape : FrameShape) (value : Value)
+  pub kept_in : StoreThenLoad
+      → (outer : List FrameShape) (m h : List RunEvent) (frame : ℕ) (shape : FrameShape) (value : Value)
       → Agrees place is_embedded m h → is_embedded frame ≡ false → slice_get outer frame ≡ Some shape → is_active shape.owner m ≡ true
       → size_of value ≡ shape.bits → 0 < size_of value / 8
       → IsKeptIn place is_embedded outer m h frame value

@@ -9,6 +9,7 @@ pub sizes : LoadFits → OperatorsFit → UnariesFit → ExtendsFit → CastsFit
 sizes loads operators unaries extends casts elements =
     record { loads = loads; operators = operators; unaries = unaries; extends = extends; casts = casts; elements = elements }
 
-pub operators : LoadsAgree → OperatorsGive → ComparisonsGive → TestsGive → UnariesGive → ExtendsGive → CutsGive → CastsGive → ElementsGive → Operators
+pub operators : LoadsAgree → OperatorsGive → ComparisonsGive → TestsGive → UnariesGive → ExtendsGive → CutsGive
+    → CastsGive → ElementsGive → Operators
 operators loads binary comparisons tests unary extends cuts casts elements =
     record { loads = loads; binary = binary; comparisons = comparisons; tests = tests; unary = unary; extends = extends; cuts = cuts; casts = casts; elements = elements }

@@ -22,7 +22,8 @@ without_store true frame offset size value rest function = refl
 without_store false frame offset size value rest function = refl
 
 module _ (is_embedded : ℕ → Bool) where
-  pub only_running : (m : List RunEvent) (function : ℕ) → is_running (embedded_only is_embedded m) function ≡ is_running m function
+  pub only_running : (m : List RunEvent) (function : ℕ)
+      → is_running (embedded_only is_embedded m) function ≡ is_running m function
   only_running [] function = refl
   only_running (Enter entered ∷ m) function = ap (λ (b : Bool). if entered == function then true else b) (only_running m function)
   only_running (Leave left ∷ m) function = ap (λ (b : Bool). if left == function then false else b) (only_running m function)
@@ -62,14 +63,16 @@ module _ (is_embedded : ℕ → Bool) where
 abbrev pub embedded_byte : (ℕ → ℕ) → Byte → Byte
 embedded_byte place byte = record { offset = byte.offset; size = byte.size; value = embedded_value place byte.value; place = byte.place }
 
-pub embedded_running : (place : ℕ → ℕ) (h : List RunEvent) (function : ℕ) → is_running (embedded_history place h) function ≡ is_running h function
+pub embedded_running : (place : ℕ → ℕ) (h : List RunEvent) (function : ℕ)
+    → is_running (embedded_history place h) function ≡ is_running h function
 embedded_running place [] function = refl
 embedded_running place (Enter entered ∷ h) function = ap (λ (b : Bool). if entered == function then true else b) (embedded_running place h function)
 embedded_running place (Leave left ∷ h) function = ap (λ (b : Bool). if left == function then false else b) (embedded_running place h function)
 embedded_running place (Store frame offset size value ∷ h) function = embedded_running place h function
 
 -- frames are one where they were one
-same_frame : (place : ℕ → ℕ) → ((frame other : ℕ) → place frame ≡ place other → frame ≡ other) → (frame other : ℕ) → (place frame == place other) ≡ (frame == other)
+same_frame : (place : ℕ → ℕ) → ((frame other : ℕ) → place frame ≡ place other → frame ≡ other) → (frame other : ℕ)
+    → (place frame == place other) ≡ (frame == other)
 same_frame place apart frame other =
     by_test (frame == other)
     (λ same. eq-eqb (place frame) (place other) (ap place (eqb-true frame other same)) ∙ sym same)
@@ -94,7 +97,8 @@ either_frame : (place : ℕ → ℕ) (test : Bool) (x y : Option Byte)
 either_frame place true x y = refl
 either_frame place false x y = refl
 
-pub embedded_origin : (place : ℕ → ℕ) → ((frame other : ℕ) → place frame ≡ place other → frame ≡ other) → (owner : Option ℕ) (frame byte : ℕ) (h : List RunEvent)
+pub embedded_origin : (place : ℕ → ℕ) → ((frame other : ℕ) → place frame ≡ place other → frame ≡ other)
+    → (owner : Option ℕ) (frame byte : ℕ) (h : List RunEvent)
     → origin owner (place frame) (embedded_history place h) byte ≡ option_map (embedded_byte place) (origin owner frame h byte)
 embedded_origin place apart owner frame byte [] = refl
 embedded_origin place apart owner frame byte (Enter entered ∷ h) =

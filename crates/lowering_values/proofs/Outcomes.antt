@@ -37,11 +37,13 @@ module _ (place : ℕ → ℕ) where
 
   -- ---- from values to results
 
-  pub at_one : (op : Op) (sizes : List ℕ) (f : Value → Valued) → ((a : Value) → outcome op sizes (V a ∷ []) ≡ E (f a)) → (r : Valued) → one op sizes (E r) ≡ E (on_value f r)
+  pub at_one : (op : Op) (sizes : List ℕ) (f : Value → Valued) → ((a : Value) → outcome op sizes (V a ∷ []) ≡ E (f a))
+      → (r : Valued) → one op sizes (E r) ≡ E (on_value f r)
   at_one op sizes f each (Ok a) = each a
   at_one op sizes f each (Err fault) = refl
 
-  pub at_two : (op : Op) (sizes : List ℕ) (f : Value → Value → Valued) → ((a b : Value) → outcome op sizes (V a ∷ V b ∷ []) ≡ E (f a b))
+  pub at_two : (op : Op) (sizes : List ℕ) (f : Value → Value → Valued)
+      → ((a b : Value) → outcome op sizes (V a ∷ V b ∷ []) ≡ E (f a b))
       → (l r : Valued) → two op sizes (E l) (E r) ≡ E (on_both f l r)
   at_two op sizes f each (Err fault) r = refl
   at_two op sizes f each (Ok a) (Err fault) = refl
@@ -64,7 +66,8 @@ module _ (place : ℕ → ℕ) where
   abbrev D : List ℕ
   D = 32 ∷ 32 ∷ []
 
-  divided : (test : Bool) (r : Valued) → (if test then Err faults.Divide else E r) ≡ E (if test then Err faults.Divide else r)
+  divided : (test : Bool) (r : Valued)
+      → (if test then Err faults.Divide else E r) ≡ E (if test then Err faults.Divide else r)
   divided true r = refl
   divided false r = refl
 
@@ -119,7 +122,8 @@ module _ (place : ℕ → ℕ) where
   -- ---- products
 
   -- the lowest 32 bits of a product of 64
-  pub signed_product : (l r : Valued) → one ops.Trunc (64 ∷ 32 ∷ []) (two ops.SMul D (E l) (E r)) ≡ E (on_both (product Int) l r)
+  pub signed_product : (l r : Valued)
+      → one ops.Trunc (64 ∷ 32 ∷ []) (two ops.SMul D (E l) (E r)) ≡ E (on_both (product Int) l r)
   signed_product (Err fault) r = refl
   signed_product (Ok a) (Err fault) = refl
   signed_product (Ok (values.Int s x)) (Ok (values.Int t y)) = ap (λ (w : ℕ). Ok (values.Int 32 w)) (of_64 (signed 32 x *ℤ signed 32 y))
@@ -127,7 +131,8 @@ module _ (place : ℕ → ℕ) where
   signed_product (Ok (values.Ptr o x)) (Ok (values.Int t y)) = refl
   signed_product (Ok (values.Ptr o x)) (Ok (values.Ptr p y)) = refl
 
-  pub unsigned_product : (l r : Valued) → one ops.Trunc (64 ∷ 32 ∷ []) (two ops.UMul D (E l) (E r)) ≡ E (on_both (product UnsignedInt) l r)
+  pub unsigned_product : (l r : Valued)
+      → one ops.Trunc (64 ∷ 32 ∷ []) (two ops.UMul D (E l) (E r)) ≡ E (on_both (product UnsignedInt) l r)
   unsigned_product (Err fault) r = refl
   unsigned_product (Ok a) (Err fault) = refl
   unsigned_product (Ok (values.Int s x)) (Ok (values.Int t y)) = ap (λ (w : ℕ). Ok (values.Int 32 w)) (of_64 (pos x *ℤ pos y))
@@ -170,11 +175,13 @@ module _ (place : ℕ → ℕ) where
       not_both : false ≡ true → ⊥
       not_both is = cc
 
-  either : (test : Bool) (r : Valued) (fault : RunFault) → (if test then E r else Err fault) ≡ E (if test then r else Err fault)
+  either : (test : Bool) (r : Valued) (fault : RunFault)
+      → (if test then E r else Err fault) ≡ E (if test then r else Err fault)
   either true r fault = refl
   either false r fault = refl
 
-  pub differences : ((o p : ℕ) → place o ≡ place p → o ≡ p) → (l r : Valued) → FitsResult 32 r → three ops.Sub S (E l) (E r) (Ok (values.Int 1 1)) ≡ E (on_both difference l r)
+  pub differences : ((o p : ℕ) → place o ≡ place p → o ≡ p) → (l r : Valued) → FitsResult 32 r
+      → three ops.Sub S (E l) (E r) (Ok (values.Int 1 1)) ≡ E (on_both difference l r)
   differences apart (Err fault) r fits = refl
   differences apart (Ok a) (Err fault) fits = refl
   differences apart (Ok (values.Int s x)) (Ok (values.Int t y)) fits = ap (λ (w : ℕ). Ok (values.Int 32 w)) (less_word x y fits.1)

@@ -22,7 +22,8 @@ rest_of (pos a) d = refl
 rest_of (negsuc a) d = refl
 
 -- the word of a word of a greater size
-pub word_of_word : (size more : ℕ) (z : ℤ) → Divides (pos (2 ^ size)) (pos (2 ^ more)) → word size (pos (word more z)) ≡ word size z
+pub word_of_word : (size more : ℕ) (z : ℤ) → Divides (pos (2 ^ size)) (pos (2 ^ more))
+    → word size (pos (word more z)) ≡ word size z
 word_of_word size more z wider =
     sym (same_word size z (pos (word more z))
     (divides_same (pos (2 ^ size)) (z -ℤ int_rem_euclid z (pos (2 ^ more))) (z -ℤ pos (word more z)) (ap (λ (r : ℤ). z -ℤ r) (sym (rest_of z (pos (2 ^ more)))))

@@ -63,11 +63,13 @@ stores_agree law unit frame m h size to e place v stand agree gives_place gives_
 -- ---- arguments
 
 module _ (place : ℕ → ℕ) where
-  then_values : (v : Value) (r : Result (List Value) RunFault) → before (embedded_value place v) (embedded_results place r) ≡ embedded_results place (before v r)
+  then_values : (v : Value) (r : Result (List Value) RunFault)
+      → before (embedded_value place v) (embedded_results place r) ≡ embedded_results place (before v r)
   then_values v (Ok vs) = refl
   then_values v (Err fault) = refl
 
-  next_operand : (x : Valued) (xs : List Valued) (v : Valued) (vs : List Valued) → x ≡ embedded_result place v → operands xs ≡ embedded_results place (operands vs)
+  next_operand : (x : Valued) (xs : List Valued) (v : Valued) (vs : List Valued) → x ≡ embedded_result place v
+      → operands xs ≡ embedded_results place (operands vs)
       → operands (x ∷ xs) ≡ embedded_results place (operands (v ∷ vs))
   next_operand x xs (Ok v) vs first rest =
       ap (λ (y : Valued). operands (y ∷ xs)) first ∙ ap (λ (r : Result (List Value) RunFault). before (embedded_value place v) r) rest ∙ then_values v (operands vs)
@@ -77,7 +79,8 @@ module _ (laws : Operators) (sizes : Sizes) (unit : UnitTree) (f : ℕ) (frame :
   abbrev P : Program
   P = program_of unit
 
-  pub arguments_agree : (es : List Expression) (kinds : List Scalar) (ps : List Parameter) → ArgumentsSuit unit.words scopes es kinds → All IsPlain es
+  pub arguments_agree : (es : List Expression) (kinds : List Scalar) (ps : List Parameter)
+      → ArgumentsSuit unit.words scopes es kinds → All IsPlain es
       → operands (map (value_of (frames_of unit) m) (map (with_frames frame) (effects.arguments P scopes es ps))) ≡ embedded_results (frame_number unit) (operands (statements.arguments P scopes h es ps))
   arguments_agree [] kinds ps suit plain = refl
   arguments_agree (e ∷ es) [] ps suit plain = absurd suit
@@ -98,7 +101,8 @@ abbrev AreWhole : Result (List Value) RunFault → Type 0
 AreWhole (Ok vs) = All IsWhole vs
 AreWhole (Err fault) = ⊤
 
-next_whole : (size : ℕ) (v : Valued) (vs : List Valued) → FitsResult size v → AreWhole (operands vs) → AreWhole (operands (v ∷ vs))
+next_whole : (size : ℕ) (v : Valued) (vs : List Valued) → FitsResult size v → AreWhole (operands vs)
+    → AreWhole (operands (v ∷ vs))
 next_whole size (Err fault) vs fits rest = tt
 next_whole size (Ok v) vs fits rest = before_rest (operands vs) rest
   where
@@ -107,7 +111,8 @@ next_whole size (Ok v) vs fits rest = before_rest (operands vs) rest
     before_rest (Err fault) rest = tt
 
 module _ (sizes : Sizes) (cuts : CutsFit) (program : Program) (scopes : List Scope) (h : List RunEvent) (sound : Rattle.alf_ops.specs.Histories.IsSound h) where
-  each_whole : (es : List Expression) (ps : List Parameter) → AreWhole (operands (statements.arguments program scopes h es ps))
+  each_whole : (es : List Expression) (ps : List Parameter)
+      → AreWhole (operands (statements.arguments program scopes h es ps))
   each_whole [] ps = All-nil IsWhole
   each_whole (e ∷ es) [] =
       next_whole 32 (meaning.value_of program scopes h e) (statements.arguments program scopes h es []) (value_fits sizes program scopes h sound e) (each_whole es [])
@@ -115,5 +120,6 @@ module _ (sizes : Sizes) (cuts : CutsFit) (program : Program) (scopes : List Sco
       next_whole (Rattle.c_meaning.specs.Objects.bits_of_scalar p.kind) (on_value (cut_to p.kind) (meaning.value_of program scopes h e)) (statements.arguments program scopes h es ps)
       (cuts p.kind (meaning.value_of program scopes h e) (value_fits sizes program scopes h sound e)) (each_whole es ps)
 
-  pub arguments_whole : (es : List Expression) (ps : List Parameter) (vs : List Value) → operands (statements.arguments program scopes h es ps) ≡ Ok vs → All IsWhole vs
+  pub arguments_whole : (es : List Expression) (ps : List Parameter) (vs : List Value)
+      → operands (statements.arguments program scopes h es ps) ≡ Ok vs → All IsWhole vs
   arguments_whole es ps vs is = subst (λ (r : Result (List Value) RunFault). AreWhole r) is (each_whole es ps)

@@ -41,7 +41,8 @@ pub record ComparesResults (place : ℕ → ℕ) (op : Op) (f : Value → Value 
   pub runs : two op (32 ∷ []) (embedded_result place l) (embedded_result place r) ≡ as_bit test
   pub means : on_both f l r ≡ as_value test
 
-pub at_results : (place : ℕ → ℕ) (op : Op) (f : Value → Value → Valued) → ((a b : Value) → Compares place op f a b) → (l r : Valued) → ComparesResults place op f l r
+pub at_results : (place : ℕ → ℕ) (op : Op) (f : Value → Value → Valued) → ((a b : Value) → Compares place op f a b)
+    → (l r : Valued) → ComparesResults place op f l r
 at_results place op f each (Err fault) r = record { test = Err fault; runs = refl; means = refl }
 at_results place op f each (Ok a) (Err fault) = record { test = Err fault; runs = refl; means = refl }
 at_results place op f each (Ok a) (Ok b) = let is = each a b in record { test = is.test; runs = is.runs; means = is.means }
@@ -50,11 +51,13 @@ module _ (place : ℕ → ℕ) (apart : (o p : ℕ) → place o ≡ place p → 
   abbrev V : Value → Value
   V v = embedded_value place v
 
-  equal_places : (one both : Bool) → Ok (values.Int 1 (if one then word 1 (table.bit both) else 0)) ≡ as_bit (Ok (one && both))
+  equal_places : (one both : Bool)
+      → Ok (values.Int 1 (if one then word 1 (table.bit both) else 0)) ≡ as_bit (Ok (one && both))
   equal_places true both = bit_of both
   equal_places false both = refl
 
-  unequal_places : (one both : Bool) → Ok (values.Int 1 (if one then word 1 (table.bit (not both)) else 1)) ≡ as_bit (Ok (not (one && both)))
+  unequal_places : (one both : Bool)
+      → Ok (values.Int 1 (if one then word 1 (table.bit (not both)) else 1)) ≡ as_bit (Ok (not (one && both)))
   unequal_places true both = bit_of (not both)
   unequal_places false both = refl
 
@@ -98,7 +101,8 @@ module _ (place : ℕ → ℕ) (apart : (o p : ℕ) → place o ≡ place p → 
   ordered_places true test = bit_of test
   ordered_places false test = refl
 
-  places_mean : (one : Bool) (test : Bool) → (if one then bit test else Err faults.Pointers) ≡ as_value (if one then Ok test else Err faults.Pointers)
+  places_mean : (one : Bool) (test : Bool)
+      → (if one then bit test else Err faults.Pointers) ≡ as_value (if one then Ok test else Err faults.Pointers)
   places_mean true test = refl
   places_mean false test = refl
 
@@ -179,7 +183,8 @@ module _ (place : ℕ → ℕ) where
   zero_means (Ok (values.Int s x)) = refl
   zero_means (Ok (values.Ptr o x)) = refl
 
-  pub not_value : (r : Valued) → one ops.ZExt (1 ∷ 32 ∷ []) (two ops.Eq (32 ∷ []) (R r) (Ok (values.Int 32 0))) ≡ R (on_value opposite r)
+  pub not_value : (r : Valued)
+      → one ops.ZExt (1 ∷ 32 ∷ []) (two ops.Eq (32 ∷ []) (R r) (Ok (values.Int 32 0))) ≡ R (on_value opposite r)
   not_value r = ap (λ (b : Valued). one ops.ZExt (1 ∷ 32 ∷ []) b) (is_zero r) ∙ bit_extended (zero_test r) ∙ ap R (zero_means r)
 
   -- ---- conversions

@@ -1,4 +1,5 @@
--- Values and histories over one table of frames, seen in another that has a frame for each of them, and further frames beside them.
+-- Values and histories over one table of frames, seen in another that has a frame for each of them, and further frames
+-- beside them.
 --   embedded_value place v         the value, where frame o of the one table is frame `place o` of the other
 --   embedded_values, embedded_result, embedded_results   those of values in a row, and of evaluations, whose faults stay what they are
 --   embedded_history place h       the history over the other table: stores go to the frames of theirs, and functions are entered and left as they are

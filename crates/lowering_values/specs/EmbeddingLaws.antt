@@ -23,7 +23,8 @@ pub record Agrees (place : ℕ → ℕ) (is_embedded : ℕ → Bool) (m h : List
   pub same : embedded_only is_embedded m ≡ embedded_history place h
   pub sound : IsSound h
 
-abbrev pub AgreeAfter : (ℕ → ℕ) → (ℕ → Bool) → Result (List RunEvent) RunFault → Result (List RunEvent) RunFault → Type 0
+abbrev pub AgreeAfter : (ℕ → ℕ) → (ℕ → Bool) → Result (List RunEvent) RunFault → Result (List RunEvent) RunFault
+    → Type 0
 AgreeAfter place is_embedded (Ok m) (Ok h) = Agrees place is_embedded m h
 AgreeAfter place is_embedded (Ok m) (Err fault) = ⊥
 AgreeAfter place is_embedded (Err fault) (Ok h) = ⊥
@@ -53,13 +54,15 @@ pub record GoOnToAgree (place : ℕ → ℕ) (is_embedded : ℕ → Bool) (m h :
   pub leave : (function : ℕ) → Agrees place is_embedded (Leave function ∷ m) (Leave function ∷ h)
   pub put : (frame offset size : ℕ) (value : Value) → is_embedded (place frame) ≡ true → FitsValue size value
       → Agrees place is_embedded (Store (place frame) offset size (embedded_value place value) ∷ m) (Store frame offset size value ∷ h)
-  pub further : (frame offset size : ℕ) (value : Value) → is_embedded frame ≡ false → Agrees place is_embedded (Store frame offset size value ∷ m) h
+  pub further : (frame offset size : ℕ) (value : Value) → is_embedded frame ≡ false
+      → Agrees place is_embedded (Store frame offset size value ∷ m) h
 
 abbrev pub EventsAgree : Type 0
 EventsAgree = (place : ℕ → ℕ) (is_embedded : ℕ → Bool) (m h : List RunEvent) → Agrees place is_embedded m h → GoOnToAgree place is_embedded m h
 
 -- where it is stored, what it is afterwards, and what a load of it gives
-pub record IsKeptIn (place : ℕ → ℕ) (is_embedded : ℕ → Bool) (outer : List FrameShape) (m h : List RunEvent) (frame : ℕ) (value : Value) : Type 0 where
+pub record IsKeptIn (place : ℕ → ℕ) (is_embedded : ℕ → Bool) (outer : List FrameShape) (m h : List RunEvent) (frame : ℕ)
+    (value : Value) : Type 0 where
   pub later : List RunEvent
   pub stored : store outer m (Ptr frame 0) value ≡ Ok later
   pub agrees : Agrees place is_embedded later h

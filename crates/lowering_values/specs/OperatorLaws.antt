@@ -1,4 +1,5 @@
--- What lowered operators give after a history: the embedded value of the operator of C, where their operands give embedded values.
+-- What lowered operators give after a history: the embedded value of the operator of C, where their operands give
+-- embedded values.
 --   Gives place frames frame m e v   the lowered expression gives the embedded v, where `frame` numbers the frames that are named
 --   as_bit test            a test as a word of one bit
 --   FitsResult size r      a fault, or a value of the size

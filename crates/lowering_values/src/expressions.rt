@@ -1,6 +1,7 @@
 //! What is true of expressions, as clauses of functions that do nothing.
 
-ghost use Rattle.lowering_values.specs.Agreement.{ValuesAgree, AddressesAgree, TestsAgree, ComparisonsAgree, OperatorsAgree, ValuesFit, OperatorsFit, CutsAgree, CutsFit};
+ghost use Rattle.lowering_values.specs.Agreement.{ValuesAgree, AddressesAgree, TestsAgree, ComparisonsAgree};
+ghost use Rattle.lowering_values.specs.Agreement.{OperatorsAgree, ValuesFit, OperatorsFit, CutsAgree, CutsFit};
 
 use crate::injection_laws::loads_and_stores_agree;
 use crate::operator_laws::{

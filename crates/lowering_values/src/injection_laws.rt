@@ -1,6 +1,7 @@
 //! What is true of embedded histories, as clauses of functions that do nothing.
 
-ghost use Rattle.lowering_values.specs.EmbeddingLaws.{RunsAlike, LoadsAgree, StoresAgree, EventsAgree, FurtherFrame, SizesStay};
+ghost use Rattle.lowering_values.specs.EmbeddingLaws.{RunsAlike, LoadsAgree, StoresAgree, EventsAgree, FurtherFrame};
+ghost use Rattle.lowering_values.specs.EmbeddingLaws.{SizesStay};
 
 use alf_ops::a_load_gives_what_was_stored;
 

@@ -1,6 +1,7 @@
 //! What is true of stores, calls, starts and outputs, as clauses of functions that do nothing.
 
-ghost use Rattle.lowering_values.specs.Agreement.{StoresAgree, ObjectsAgree, ElementsAgree, ArgumentsAgree, ArgumentsFit, EntersAgree, ResultsAgree, OutputsAgree, StartsAgree};
+ghost use Rattle.lowering_values.specs.Agreement.{StoresAgree, ObjectsAgree, ElementsAgree, ArgumentsAgree};
+ghost use Rattle.lowering_values.specs.Agreement.{ArgumentsFit, EntersAgree, ResultsAgree, OutputsAgree, StartsAgree};
 
 use crate::injection_laws::{
     a_further_frame_keeps_its_value, embedded_values_have_their_size, events_keep_agreement,

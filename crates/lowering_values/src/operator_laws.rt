@@ -1,6 +1,9 @@
 //! What is true of lowered operators, as clauses of functions that do nothing.
 
-ghost use Rattle.lowering_values.specs.OperatorLaws.{OperatorsGive, ComparisonsGive, TestsGive, UnariesGive, ExtendsGive, CutsGive, CastsGive, WordsAreCut, ElementsGive, OperatorsFit, UnariesFit, ExtendsFit, CutsFit, CastsFit, ElementsFit};
+ghost use Rattle.lowering_values.specs.OperatorLaws.{OperatorsGive, ComparisonsGive, TestsGive, UnariesGive};
+ghost use Rattle.lowering_values.specs.OperatorLaws.{ExtendsGive, CutsGive, CastsGive, WordsAreCut, ElementsGive};
+ghost use Rattle.lowering_values.specs.OperatorLaws.{OperatorsFit, UnariesFit, ExtendsFit, CutsFit, CastsFit};
+ghost use Rattle.lowering_values.specs.OperatorLaws.{ElementsFit};
 
 /// An operator of one operand or of two gives what that of C gives, and an element lies where it lies
 /// in C. Only of the right operand is it asked that it has 32 bits: it may be taken away.

@@ -10,6 +10,8 @@ ghost use Rattle.lowering_values.specs.Frames.{row_number};
 pub fn pointers_go_with_their_objects()
     ensures word { embedded_value (λ o. o + 3) (Int 32 1) ≡ Int 32 1 }
     ensures pointer { embedded_value (λ o. o + 3) (Ptr 1 4) ≡ Ptr 4 4 }
-    ensures owner { row_number (Some 1) (codes "x") (record { owner = None; name = codes "x"; bits = 8 } ∷ record { owner = Some 1; name = codes "y"; bits = 8 } ∷ record { owner = Some 1; name = codes "x"; bits = 8 } ∷ []) ≡ 2 }
+    ensures owner { row_number (Some 1) (codes "x")
+        (record { owner = None; name = codes "x"; bits = 8 } ∷ record { owner = Some 1; name = codes "y"; bits = 8 }
+        ∷ record { owner = Some 1; name = codes "x"; bits = 8 } ∷ []) ≡ 2 }
     ensures none { row_number None (codes "z") (record { owner = None; name = codes "x"; bits = 8 } ∷ []) ≡ 1 }
 {}

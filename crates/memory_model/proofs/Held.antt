@@ -58,7 +58,8 @@ idle zero function = refl
 idle (suc count) zero = refl
 idle (suc count) (suc function) = idle count function
 
-none_held : (sizes : List ℕ) (frame : ℕ) → frame_of (list_or (slice_get (map blank_slots sizes) frame)) ≡ empty abstract_sets
+none_held : (sizes : List ℕ) (frame : ℕ)
+    → frame_of (list_or (slice_get (map blank_slots sizes) frame)) ≡ empty abstract_sets
 none_held [] frame = refl
 none_held (size ∷ sizes) zero = blank_is size
 none_held (size ∷ sizes) (suc frame) = none_held sizes frame
@@ -95,7 +96,8 @@ frame_held running frames frame slots low =
 
 -- ---- joins
 
-get_in : {A : Type 0} (g : ℕ → A) (from count i : ℕ) → i < count → slice_get (map g (offsets from count)) i ≡ Some (g (from + i))
+get_in : {A : Type 0} (g : ℕ → A) (from count i : ℕ) → i < count
+    → slice_get (map g (offsets from count)) i ≡ Some (g (from + i))
 get_in g from zero i low = absurd (omega arith)
 get_in g from (suc count) zero low =
     let e : from ≡ from + 0 = omega arith in
@@ -124,7 +126,8 @@ module _ (a b : List HeldSlot) (same : length a ≡ length b) where
       let e : 0 + place ≡ place = omega arith in
       get_in (joined_slot a b) 0 (length a) place low ∙ ap (λ (n : ℕ). Some (joined_slot a b n)) e
 
-  joined_byte : (place : ℕ) → byte_in (slice_get (joined_slots a b) place) ≡ (joined abstract_sets (frame_of a) (frame_of b)).bytes place
+  joined_byte : (place : ℕ)
+      → byte_in (slice_get (joined_slots a b) place) ≡ (joined abstract_sets (frame_of a) (frame_of b)).bytes place
   joined_byte place = elim (cases_lt place (length a)) [
     | inl low ↦ ap byte_in (joined_found place low)
     | inr past ↦ rw (get_out (joined_slot a b) 0 (length a) place past, get_past a place past, get_past b place (omega arith)) refl

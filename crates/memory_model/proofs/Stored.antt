@@ -20,7 +20,8 @@ abbrev pub slot_at : Byte → (ℕ → Option Held) → HeldSlot
 slot_at byte f = record { byte = byte; cells = table f }
 
 -- the sizes of cells, one by one
-by_size : (P : ℕ → Type 0) (size : ℕ) → size % 8 ≡ 0 → 0 < size → size ≤ 64 → P 8 → P 16 → P 24 → P 32 → P 40 → P 48 → P 56 → P 64 → P size
+by_size : (P : ℕ → Type 0) (size : ℕ) → size % 8 ≡ 0 → 0 < size → size ≤ 64 → P 8 → P 16 → P 24 → P 32 → P 40 → P 48
+    → P 56 → P 64 → P size
 by_size P size whole some most a b c d e f g h = elim (cases_eq size 8) [
   | inl is ↦ subst P (sym is) a
   | inr not_8 ↦ elim (cases_eq size 16) [
@@ -48,7 +49,8 @@ by_size P size whole some most a b c d e f g h = elim (cases_eq size 8) [
 ]
 
 -- a table at the size of a cell
-pub table_at : (byte : Byte) (f : ℕ → Option Held) (size : ℕ) → is_cell_size size ≡ true → cell_of (slot_at byte f) size ≡ f size
+pub table_at : (byte : Byte) (f : ℕ → Option Held) (size : ℕ) → is_cell_size size ≡ true
+    → cell_of (slot_at byte f) size ≡ f size
 table_at byte f size is =
     let parts = and_parts _ _ is in
     let bounds = and_parts _ _ parts.1 in
@@ -59,7 +61,8 @@ pub seen_held : (cell : Option (Cell AbstractValue)) → cell_seen (cell_held ce
 seen_held None = refl
 seen_held (Some cell) = refl
 
-get_changed : (f : ℕ → HeldSlot → HeldSlot) (place : ℕ) (slots : List HeldSlot) (i : ℕ) → slice_get (changed f place slots) i ≡ option_map (f (place + i)) (slice_get slots i)
+get_changed : (f : ℕ → HeldSlot → HeldSlot) (place : ℕ) (slots : List HeldSlot) (i : ℕ)
+    → slice_get (changed f place slots) i ≡ option_map (f (place + i)) (slice_get slots i)
 get_changed f place [] i = refl
 get_changed f place (slot ∷ slots) zero =
     let e : place ≡ place + 0 = omega arith in

@@ -42,7 +42,8 @@ seen_held (Some cell) = refl
 slot_found : (slot : HeldSlot) → record { byte = byte_held (byte_in (Some slot)); cells = table (λ size. cell_held (cell_in (Some slot) size)) } ≡ canonical slot
 slot_found slot = λ i. record { byte = slot.byte; cells = table (λ size. held_seen (cell_of slot size) i) }
 
-slot_is : (slots : List HeldSlot) (place : ℕ) (slot : HeldSlot) → slice_get slots place ≡ Some slot → slot_at (frame_of slots) place ≡ canonical slot
+slot_is : (slots : List HeldSlot) (place : ℕ) (slot : HeldSlot) → slice_get slots place ≡ Some slot
+    → slot_at (frame_of slots) place ≡ canonical slot
 slot_is slots place slot found =
     ap (λ (o : Option HeldSlot). record { byte = byte_held (byte_in o); cells = table (λ size. cell_held (cell_in o size)) }) found ∙ slot_found slot
 
@@ -52,13 +53,15 @@ slots_are slots = read_off (slot_at (frame_of slots)) canonical 0 slots (λ i sl
     let e : 0 + i ≡ i = omega arith in
     ap (slot_at (frame_of slots)) e ∙ slot_is slots i slot found)
 
-pub canonical_off : (f : FrameMem abstract_sets) (from count : ℕ) → map canonical (map (slot_at f) (offsets from count)) ≡ map (slot_at f) (offsets from count)
+pub canonical_off : (f : FrameMem abstract_sets) (from count : ℕ)
+    → map canonical (map (slot_at f) (offsets from count)) ≡ map (slot_at f) (offsets from count)
 canonical_off f from zero = refl
 canonical_off f from (suc count) = ap (λ slots. slot_at f from ∷ slots) (canonical_off f (suc from) count)
 
 -- ---- frames
 
-by_size : (P : ℕ → Type 0) (size : ℕ) → size % 8 ≡ 0 → 0 < size → size ≤ 64 → P 8 → P 16 → P 24 → P 32 → P 40 → P 48 → P 56 → P 64 → P size
+by_size : (P : ℕ → Type 0) (size : ℕ) → size % 8 ≡ 0 → 0 < size → size ≤ 64 → P 8 → P 16 → P 24 → P 32 → P 40 → P 48
+    → P 56 → P 64 → P size
 by_size P size whole some most a b c d e f g h = elim (cases_eq size 8) [
   | inl is ↦ subst P (sym is) a
   | inr not_8 ↦ elim (cases_eq size 16) [
@@ -86,7 +89,8 @@ by_size P size whole some most a b c d e f g h = elim (cases_eq size 8) [
 ]
 
 -- a table at the size of a cell
-pub table_at : (byte : Byte) (f : ℕ → Option Held) (size : ℕ) → is_cell_size size ≡ true → cell_of (record { byte = byte; cells = table f }) size ≡ f size
+pub table_at : (byte : Byte) (f : ℕ → Option Held) (size : ℕ) → is_cell_size size ≡ true
+    → cell_of (record { byte = byte; cells = table f }) size ≡ f size
 table_at byte f size is =
     let parts = and_parts _ _ is in
     let bounds = and_parts _ _ parts.1 in
@@ -162,19 +166,22 @@ frames_are f from (row ∷ rows) (slots ∷ frames) lengths same is =
     ap f later ∙ is (suc frame)) in
     ap (λ x. x ∷ frames_from f (suc from) rows) head ∙ ap (λ xs. slots ∷ xs) tail
 
-lengths_from : (f : ℕ → FrameMem abstract_sets) (from : ℕ) (rows : List FrameShape) → map length (frames_from f from rows) ≡ map bytes_in rows
+lengths_from : (f : ℕ → FrameMem abstract_sets) (from : ℕ) (rows : List FrameShape)
+    → map length (frames_from f from rows) ≡ map bytes_in rows
 lengths_from f from [] = refl
 lengths_from f from (row ∷ rows) =
     ap (λ (n : ℕ). n ∷ map length (frames_from f (suc from) rows)) (length_off (slot_at (f from)) 0 (bytes_in row))
     ∙ ap (λ ns. bytes_in row ∷ ns) (lengths_from f (suc from) rows)
 
-canonical_from : (f : ℕ → FrameMem abstract_sets) (from : ℕ) (rows : List FrameShape) → map (map canonical) (frames_from f from rows) ≡ frames_from f from rows
+canonical_from : (f : ℕ → FrameMem abstract_sets) (from : ℕ) (rows : List FrameShape)
+    → map (map canonical) (frames_from f from rows) ≡ frames_from f from rows
 canonical_from f from [] = refl
 canonical_from f from (row ∷ rows) =
     ap (λ x. x ∷ map (map canonical) (frames_from f (suc from) rows)) (canonical_off (f from) 0 (bytes_in row))
     ∙ ap (λ xs. slots_of (bytes_in row) (f from) ∷ xs) (canonical_from f (suc from) rows)
 
-within_from : (rows : List FrameShape) (frames : List (List HeldSlot)) → map length frames ≡ map bytes_in rows → (frame : ℕ)
+within_from : (rows : List FrameShape) (frames : List (List HeldSlot)) → map length frames ≡ map bytes_in rows
+    → (frame : ℕ)
     → IsFrameWithin (bytes_at (slice_get rows frame)) (frame_of (list_or (slice_get frames frame)))
 within_from [] [] lengths frame = slots_within []
 within_from [] (slots ∷ frames) lengths frame = cc
@@ -188,13 +195,15 @@ within_from (row ∷ rows) (slots ∷ frames) lengths (suc frame) =
 
 -- ---- flags
 
-runs_off : (runs : ℕ → Bool) (count function : ℕ) → (count ≤ function → runs function ≡ false) → runs_or (slice_get (map runs (offsets 0 count)) function) ≡ runs function
+runs_off : (runs : ℕ → Bool) (count function : ℕ) → (count ≤ function → runs function ≡ false)
+    → runs_or (slice_get (map runs (offsets 0 count)) function) ≡ runs function
 runs_off runs count function none = elim (cases_lt function count) [
   | inl low ↦ ap runs_or (get_in runs 0 count function low) ∙ ap runs (let e : 0 + function ≡ function = omega arith in e)
   | inr past ↦ ap runs_or (get_out runs 0 count function past) ∙ sym (none past)
 ]
 
-flags_are : (running : List Bool) → map (λ function. runs_or (slice_get running function)) (offsets 0 (length running)) ≡ running
+flags_are : (running : List Bool)
+    → map (λ function. runs_or (slice_get running function)) (offsets 0 (length running)) ≡ running
 flags_are running =
     read_off (λ function. runs_or (slice_get running function)) (λ (runs : Bool). runs) 0 running (λ i runs found.
     let e : 0 + i ≡ i = omega arith in
@@ -216,27 +225,32 @@ parts_are parts is = λ i. record { checked = parts.checked; running = running i
         ap (memory_in parts).frames e)
 
 -- what is made of a memory stands for it, where it holds nothing outside the frames
-pub memory_is : (checked : CheckedParts) (m : Mem abstract_sets) → IsWithin (functions_of checked) (rows_of checked) m → memory_in (made checked m) ≡ m
+pub memory_is : (checked : CheckedParts) (m : Mem abstract_sets) → IsWithin (functions_of checked) (rows_of checked) m
+    → memory_in (made checked m) ≡ m
 memory_is checked m within = λ i. record { runs = λ function. runs function i; frames = λ frame. frames frame i }
   where
-    runs : (function : ℕ) → runs_or (slice_get (map m.runs (offsets 0 (functions_of checked))) function) ≡ m.runs function
+    runs : (function : ℕ)
+        → runs_or (slice_get (map m.runs (offsets 0 (functions_of checked))) function) ≡ m.runs function
     runs function = runs_off m.runs (functions_of checked) function (within.runs function)
 
-    frames : (frame : ℕ) → frame_of (list_or (slice_get (frames_from m.frames 0 (rows_of checked)) frame)) ≡ m.frames frame
+    frames : (frame : ℕ)
+        → frame_of (list_or (slice_get (frames_from m.frames 0 (rows_of checked)) frame)) ≡ m.frames frame
     frames frame =
         let e : 0 + frame ≡ frame = omega arith in
         ap frame_of (frame_found m.frames 0 (rows_of checked) frame ∙ ap (λ (n : ℕ). slots_of (bytes_at (slice_get (rows_of checked) frame)) (m.frames n)) e)
         ∙ frame_is (bytes_at (slice_get (rows_of checked) frame)) (m.frames frame) (within.frames frame)
 
 -- what parts stand for holds nothing outside the frames
-pub is_within : (parts : MemoryParts) → IsMemory parts → IsWithin (functions_of parts.checked) (rows_of parts.checked) (memory_in parts)
+pub is_within : (parts : MemoryParts) → IsMemory parts
+    → IsWithin (functions_of parts.checked) (rows_of parts.checked) (memory_in parts)
 is_within parts is = record {
   runs = λ function past. ap runs_or (get_past parts.running function (subst (λ (n : ℕ). n ≤ function) (sym is.running) past));
   frames = within_from (rows_of parts.checked) parts.frames is.frames;
 }
 
 -- what is made of a memory with values of their sizes are parts of a memory
-pub made_is : (checked : CheckedParts) (m : Mem abstract_sets) → IsWithin (functions_of checked) (rows_of checked) m → MemSized abstract_sets m → IsMemory (made checked m)
+pub made_is : (checked : CheckedParts) (m : Mem abstract_sets) → IsWithin (functions_of checked) (rows_of checked) m
+    → MemSized abstract_sets m → IsMemory (made checked m)
 made_is checked m within sized = record {
   running = length_off m.runs 0 (functions_of checked);
   frames = lengths_from m.frames 0 (rows_of checked);
@@ -246,7 +260,8 @@ made_is checked m within sized = record {
 
 -- ---- joins
 
-frame_both : (count : ℕ) (a b : FrameMem abstract_sets) → IsFrameWithin count a → IsFrameWithin count b → IsFrameWithin count (joined abstract_sets a b)
+frame_both : (count : ℕ) (a b : FrameMem abstract_sets) → IsFrameWithin count a → IsFrameWithin count b
+    → IsFrameWithin count (joined abstract_sets a b)
 frame_both count a b first second = record {
   bytes = λ byte past. rw (first.bytes byte past, second.bytes byte past) refl;
   cells = λ offset size past. rw (first.cells offset size past, second.cells offset size past) refl;
@@ -254,7 +269,8 @@ frame_both count a b first second = record {
 }
 
 -- a join holds nothing outside the frames
-pub both_within : (count : ℕ) (rows : List FrameShape) (a b : Mem abstract_sets) → IsWithin count rows a → IsWithin count rows b → IsWithin count rows (both abstract_sets a b)
+pub both_within : (count : ℕ) (rows : List FrameShape) (a b : Mem abstract_sets) → IsWithin count rows a
+    → IsWithin count rows b → IsWithin count rows (both abstract_sets a b)
 both_within count rows a b first second = record {
   runs = first.runs;
   frames = λ frame. frame_both (bytes_at (slice_get rows frame)) (a.frames frame) (b.frames frame) (first.frames frame) (second.frames frame);

@@ -5,7 +5,8 @@ use Rattle.std.specs.Prelude.{slice_get}
 use Rattle.std.proofs.Common.{◌≡◌, ◌∙◌, ap, ℕ, suc, zero, List, [], ◌∷◌, map, Some, None, refl, arith, ◌+◌, ◌<◌, ◌≤◌, length}
 use Rattle.alf_ops.specs.Histories.{offsets}
 
-pub get_in : {A : Type 0} (g : ℕ → A) (from count i : ℕ) → i < count → slice_get (map g (offsets from count)) i ≡ Some (g (from + i))
+pub get_in : {A : Type 0} (g : ℕ → A) (from count i : ℕ) → i < count
+    → slice_get (map g (offsets from count)) i ≡ Some (g (from + i))
 get_in g from zero i low = absurd (omega arith)
 get_in g from (suc count) zero low =
     let e : from ≡ from + 0 = omega arith in
@@ -29,7 +30,8 @@ length_off g from zero = refl
 length_off g from (suc count) = ap (λ (n : ℕ). suc n) (length_off g (suc from) count)
 
 -- the function gives what a list gives, changed by h, place by place
-pub read_off : {A B : Type 0} (g : ℕ → B) (h : A → B) (from : ℕ) (xs : List A) → ((i : ℕ) (x : A) → slice_get xs i ≡ Some x → g (from + i) ≡ h x)
+pub read_off : {A B : Type 0} (g : ℕ → B) (h : A → B) (from : ℕ) (xs : List A)
+    → ((i : ℕ) (x : A) → slice_get xs i ≡ Some x → g (from + i) ≡ h x)
     → map g (offsets from (length xs)) ≡ map h xs
 read_off g h from [] is = refl
 read_off g h from (x ∷ xs) is =

@@ -21,7 +21,8 @@ abbrev pub ByteChange : Type 0
 ByteChange = ℕ → AbstractByte Stride → AbstractByte Stride
 
 -- the frame after a store
-abbrev pub stored_frame : FrameMem abstract_sets → ℕ → ℕ → Cell AbstractValue → CellChange → ByteChange → FrameMem abstract_sets
+abbrev pub stored_frame : FrameMem abstract_sets → ℕ → ℕ → Cell AbstractValue → CellChange → ByteChange
+    → FrameMem abstract_sets
 stored_frame m offset size new others byte = record {
   bytes = λ b. if is_byte_of offset size b then byte b (m.bytes b) else m.bytes b;
   cells = λ place width. if is_same offset size place width then Some new else (if share_byte offset size place width then others (m.cells place width) else m.cells place width);

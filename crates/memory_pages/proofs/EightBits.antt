@@ -41,23 +41,27 @@ abbrev pub words_with : Progression → Stride
 words_with p = record { size = 8; numbers = p }
 
 -- the numbers of parts that are equal
-pub numbers_by : (lo : ℤ) (width step : ℕ) (l h s : ℤ) → l ≡ lo → h ≡ lo +ℤ pos width → s ≡ pos step → numbers_of l h s ≡ (eight lo width step).numbers
+pub numbers_by : (lo : ℤ) (width step : ℕ) (l h s : ℤ) → l ≡ lo → h ≡ lo +ℤ pos width → s ≡ pos step
+    → numbers_of l h s ≡ (eight lo width step).numbers
 numbers_by lo width step l h s low high stepped = λ i. record { lo = low i; hi = high i; step = stepped i }
 
 -- words by their parts
-pub words_by : (words : Stride) (lo : ℤ) (width step : ℕ) → words.size ≡ 8 → lo ≡ words.numbers.lo → pos width ≡ words.numbers.hi -ℤ words.numbers.lo → pos step ≡ words.numbers.step
+pub words_by : (words : Stride) (lo : ℤ) (width step : ℕ) → words.size ≡ 8 → lo ≡ words.numbers.lo
+    → pos width ≡ words.numbers.hi -ℤ words.numbers.lo → pos step ≡ words.numbers.step
     → eight lo width step ≡ words
 words_by words lo width step size low wide stepped =
     let high : lo +ℤ pos width ≡ words.numbers.hi = omega (arith, ints, low, wide) in
     λ i. record { size = sym size i; numbers = record { lo = low i; hi = high i; step = stepped i } }
 
 -- words in normal form are the ones that norm gives
-pub norm_by : (lo : ℤ) (width step : ℕ) (p : Progression) → IsStride (eight lo width step) → p ≡ (eight lo width step).numbers
+pub norm_by : (lo : ℤ) (width step : ℕ) (p : Progression) → IsStride (eight lo width step)
+    → p ≡ (eight lo width step).numbers
     → words_with (norm 8 p) ≡ eight lo width step
 norm_by lo width step p kept same = ap words_with (ap (norm 8) same ∙ norm_itself 8 (eight lo width step).numbers kept.size.least kept.placed)
 
 -- one word from 0 on
-pub one_by : (lo : ℤ) (width step t : ℕ) → IsStride (eight lo width step) → width ≡ 0 → pos t ≡ lo → one_word 8 t ≡ eight lo width step
+pub one_by : (lo : ℤ) (width step t : ℕ) → IsStride (eight lo width step) → width ≡ 0 → pos t ≡ lo
+    → one_word 8 t ≡ eight lo width step
 one_by lo width step t kept one same =
     let high : pos t ≡ lo +ℤ pos width = omega (arith, ints, one, same) in
     let alone : lo ≡ lo +ℤ pos width = omega (arith, ints, one) in

@@ -32,12 +32,14 @@ get_past [] i past = refl
 get_past (x ∷ xs) zero past = absurd (omega arith)
 get_past (x ∷ xs) (suc i) past = get_past xs i (omega arith)
 
-set_left : {A : Type 0} (xs ys : List A) (i : ℕ) (y : A) → i < length xs → slice_set (xs ++ ys) i y ≡ slice_set xs i y ++ ys
+set_left : {A : Type 0} (xs ys : List A) (i : ℕ) (y : A) → i < length xs
+    → slice_set (xs ++ ys) i y ≡ slice_set xs i y ++ ys
 set_left [] ys i y low = absurd (omega arith)
 set_left (x ∷ xs) ys zero y low = refl
 set_left (x ∷ xs) ys (suc i) y low = ap (λ l. x ∷ l) (set_left xs ys i y (omega arith))
 
-set_right : {A : Type 0} (xs ys : List A) (i : ℕ) (y : A) → slice_set (xs ++ ys) (length xs + i) y ≡ xs ++ slice_set ys i y
+set_right : {A : Type 0} (xs ys : List A) (i : ℕ) (y : A)
+    → slice_set (xs ++ ys) (length xs + i) y ≡ xs ++ slice_set ys i y
 set_right [] ys i y =
     let e : 0 + i ≡ i = omega arith in
     ap (λ (n : ℕ). slice_set ys n y) e
@@ -75,7 +77,8 @@ high_place : (w i : ℕ) → 0 < w → w ≤ i → i % w ≡ (i - w) % w
 high_place w i some high = ap (λ (n : ℕ). n % w) (next_page w i high) ∙ mod-mul-add (suc ((i - w) / w)) w ((i - w) % w) (mod_below (i - w) w some)
 
 -- a member of the one list stands on the page of its place
-pub get_joined : {A : Type 0} (w : ℕ) (lists : List (List A)) (i : ℕ) → 0 < w → ArePages w lists → slice_get (joined lists) i ≡ slice_get (page_at lists (i / w)) (i % w)
+pub get_joined : {A : Type 0} (w : ℕ) (lists : List (List A)) (i : ℕ) → 0 < w → ArePages w lists
+    → slice_get (joined lists) i ≡ slice_get (page_at lists (i / w)) (i % w)
 get_joined w [] i some are = refl
 get_joined w (xs ∷ []) i some are = elim (cases_lt i w) [
   | inl low ↦ rw (low_page w i low, low_place w i low, append_none xs) refl
@@ -115,7 +118,8 @@ set_length (x ∷ xs) zero y = refl
 set_length (x ∷ xs) (suc i) y = ap (λ (n : ℕ). suc n) (set_length xs i y)
 
 -- pages stay pages where one of the same length is set
-pub set_pages : {A : Type 0} (w : ℕ) (lists : List (List A)) (n k : ℕ) (y : A) → ArePages w lists → ArePages w (slice_set lists n (slice_set (page_at lists n) k y))
+pub set_pages : {A : Type 0} (w : ℕ) (lists : List (List A)) (n k : ℕ) (y : A) → ArePages w lists
+    → ArePages w (slice_set lists n (slice_set (page_at lists n) k y))
 set_pages w [] n k y are = are
 set_pages w (xs ∷ []) zero k y are = rw (set_length xs k y) are
 set_pages w (xs ∷ []) (suc n) k y are = are
@@ -126,7 +130,8 @@ set_pages w (xs ∷ ys ∷ zs ∷ lists) (suc zero) k y are = (are.0, set_pages 
 set_pages w (xs ∷ ys ∷ zs ∷ lists) (suc (suc n)) k y are = (are.0, set_pages w (ys ∷ zs ∷ lists) (suc n) k y are.1)
 
 -- the place of a member is on its page
-pub on_page : {A : Type 0} (w : ℕ) (lists : List (List A)) (i : ℕ) → 0 < w → ArePages w lists → i < length (joined lists) → i / w < length lists
+pub on_page : {A : Type 0} (w : ℕ) (lists : List (List A)) (i : ℕ) → 0 < w → ArePages w lists
+    → i < length (joined lists) → i / w < length lists
 on_page w [] i some are low = absurd (omega arith)
 on_page w (xs ∷ []) i some are low =
     let short : i < length xs = subst (λ (n : ℕ). i < n) (ap length (append_none xs)) low in
@@ -143,7 +148,8 @@ on_page w (xs ∷ ys ∷ lists) i some are low = elim (cases_lt i w) [
       omega arith
 ]
 
-pub in_page : {A : Type 0} (w : ℕ) (lists : List (List A)) (i : ℕ) → 0 < w → ArePages w lists → i < length (joined lists) → i % w < length (page_at lists (i / w))
+pub in_page : {A : Type 0} (w : ℕ) (lists : List (List A)) (i : ℕ) → 0 < w → ArePages w lists
+    → i < length (joined lists) → i % w < length (page_at lists (i / w))
 in_page w lists i some are low =
     elim (cases_lt (i % w) (length (page_at lists (i / w)))) [
       | inl there ↦ there
@@ -158,7 +164,8 @@ in_page w lists i some are low =
     some_within (x ∷ xs) (suc i) low none = some_within xs i (omega arith) none
 
 -- pages of the same member
-pub made_pages : {A : Type 0} (w count : ℕ) (y : A) → 0 < w → ArePages w (replicate (count / w) (replicate w y) ++ replicate 1 (replicate (count % w) y))
+pub made_pages : {A : Type 0} (w count : ℕ) (y : A) → 0 < w
+    → ArePages w (replicate (count / w) (replicate w y) ++ replicate 1 (replicate (count % w) y))
 made_pages w count y some = go (count / w) (count % w) (omega (arith, mod_below count w some))
   where
     go : (whole last : ℕ) → last ≤ w → ArePages w (replicate whole (replicate w y) ++ replicate 1 (replicate last y))
@@ -166,7 +173,8 @@ made_pages w count y some = go (count / w) (count % w) (omega (arith, mod_below 
     go (suc zero) last few = (length-replicate w y, go zero last few)
     go (suc (suc whole)) last few = (length-replicate w y, go (suc whole) last few)
 
-pub made_joined : {A : Type 0} (w count : ℕ) (y : A) → joined (replicate (count / w) (replicate w y) ++ replicate 1 (replicate (count % w) y)) ≡ replicate count y
+pub made_joined : {A : Type 0} (w count : ℕ) (y : A)
+    → joined (replicate (count / w) (replicate w y) ++ replicate 1 (replicate (count % w) y)) ≡ replicate count y
 made_joined w count y = go (count / w) (count % w) ∙ ap (λ (n : ℕ). replicate n y) (div-add-mod' count w)
   where
     replicate_sum : (m n : ℕ) → replicate m y ++ replicate n y ≡ replicate (m + n) y
@@ -177,7 +185,8 @@ made_joined w count y = go (count / w) (count % w) ∙ ap (λ (n : ℕ). replica
         let e : suc m + n ≡ suc (m + n) = omega arith in
         ap (λ l. y ∷ l) (replicate_sum m n) ∙ ap (λ (k : ℕ). replicate k y) (sym e)
 
-    go : (whole last : ℕ) → joined (replicate whole (replicate w y) ++ replicate 1 (replicate last y)) ≡ replicate (whole * w + last) y
+    go : (whole last : ℕ)
+        → joined (replicate whole (replicate w y) ++ replicate 1 (replicate last y)) ≡ replicate (whole * w + last) y
     go zero last =
         let e : last ≡ 0 * w + last = omega arith in
         append_none (replicate last y) ∙ ap (λ (k : ℕ). replicate k y) e
@@ -191,7 +200,8 @@ map_last f [] x = refl
 map_last f (y ∷ ys) x = ap (λ l. f y ∷ l) (map_last f ys x)
 
 -- pages that were added, and the last
-pub made : {P A : Type 0} (slots : P → List A) (none whole list : List P) (full last : P) (w count : ℕ) (y : A) → none ≡ []
+pub made : {P A : Type 0} (slots : P → List A) (none whole list : List P) (full last : P) (w count : ℕ) (y : A)
+    → none ≡ []
     → map slots whole ≡ map slots none ++ replicate (count / w) (slots full) → list ≡ whole ++ last ∷ [] → slots full ≡ replicate w y → slots last ≡ replicate (count % w) y
     → map slots list ≡ replicate (count / w) (replicate w y) ++ replicate 1 (replicate (count % w) y)
 made slots none whole list full last w count y start added is_list is_full is_last =
@@ -202,18 +212,21 @@ made slots none whole list full last w count y start added is_list is_full is_la
     ∙ (ap (λ p. p ++ slots last ∷ []) so ∙ ap (λ l. replicate (count / w) (replicate w y) ++ l ∷ []) is_last))
 
 -- a list at a place that it has
-pub page_is : {A B : Type 0} (f : A → List B) (xs : List A) (n : ℕ) (x : A) → n < length xs → page_at (map f xs) n ≡ f (get_or xs n x)
+pub page_is : {A B : Type 0} (f : A → List B) (xs : List A) (n : ℕ) (x : A) → n < length xs
+    → page_at (map f xs) n ≡ f (get_or xs n x)
 page_is f [] n x low = absurd (omega arith)
 page_is f (y ∷ ys) zero x low = refl
 page_is f (y ∷ ys) (suc n) x low = page_is f ys n x (omega arith)
 
 -- what is set in a list, of each member
-pub map_set : {A B : Type 0} (f : A → B) (xs : List A) (n : ℕ) (x : A) → map f (slice_set xs n x) ≡ slice_set (map f xs) n (f x)
+pub map_set : {A B : Type 0} (f : A → B) (xs : List A) (n : ℕ) (x : A)
+    → map f (slice_set xs n x) ≡ slice_set (map f xs) n (f x)
 map_set f [] n x = refl
 map_set f (y ∷ ys) zero x = refl
 map_set f (y ∷ ys) (suc n) x = ap (λ l. f y ∷ l) (map_set f ys n x)
 
-pub set_same : {A B : Type 0} (f : A → B) (xs : List A) (n : ℕ) (x y : A) → n < length xs → f x ≡ f (get_or xs n y) → map f (slice_set xs n x) ≡ map f xs
+pub set_same : {A B : Type 0} (f : A → B) (xs : List A) (n : ℕ) (x y : A) → n < length xs → f x ≡ f (get_or xs n y)
+    → map f (slice_set xs n x) ≡ map f xs
 set_same f [] n x y low same = refl
 set_same f (z ∷ zs) zero x y low same = ap (λ a. a ∷ map f zs) same
 set_same f (z ∷ zs) (suc n) x y low same = ap (λ l. f z ∷ l) (set_same f zs n x y (omega arith) same)
@@ -225,7 +238,8 @@ either_pages w (Ok done) old new n k y put refused are = subst (ArePages w) (sym
 either_pages w (Err fault) old new n k y put refused are = subst (ArePages w) (sym refused) are
 
 -- members on a page that is the same are the same
-pub same_on : {A : Type 0} (w : ℕ) (lists others : List (List A)) (from place : ℕ) → 0 < w → ArePages w lists → ArePages w others → from % w ≡ 0
+pub same_on : {A : Type 0} (w : ℕ) (lists others : List (List A)) (from place : ℕ) → 0 < w → ArePages w lists
+    → ArePages w others → from % w ≡ 0
     → page_at lists (from / w) ≡ page_at others (from / w) → from ≤ place → place < from + w
     → slice_get (joined lists) place ≡ slice_get (joined others) place
 same_on w lists others from place some are_first are_second begins same low high =

@@ -3,7 +3,9 @@
 use Rattle.std.proofs.Common.{◌≡◌, ℕ, suc, List, ◌∷◌, length, replicate, sym, ap, ◌∙◌}
 use Rattle.memory_pages.specs.Slots.{HeldSlot}
 
-pub same_alike : (x y : HeldSlot) (xs ys : List HeldSlot) → (slot : HeldSlot) × (x ∷ xs ≡ replicate (suc (length xs)) slot) → (slot : HeldSlot) × (y ∷ ys ≡ replicate (suc (length ys)) slot)
+pub same_alike : (x y : HeldSlot) (xs ys : List HeldSlot)
+    → (slot : HeldSlot) × (x ∷ xs ≡ replicate (suc (length xs)) slot)
+    → (slot : HeldSlot) × (y ∷ ys ≡ replicate (suc (length ys)) slot)
     → length xs ≡ length ys → x ≡ y → x ∷ xs ≡ y ∷ ys
 same_alike x y xs ys (a, is_a) (b, is_b) many same =
     let first : x ≡ a = cc in

@@ -62,7 +62,8 @@ less (first ∷ kept) than width = by_test (nat_lt than first.size)
     rw (stays, here, small) refl)
     (λ there. rw (stays, there) (less kept than width)))
 
-pub apart_cells : (byte : Byte) (kept : List SizedCell) (than : ℕ) → slot_of byte (filter (λ (k : SizedCell). not (nat_lt than k.size)) kept) ≡ without_wider (slot_of byte kept) than
+pub apart_cells : (byte : Byte) (kept : List SizedCell) (than : ℕ)
+    → slot_of byte (filter (λ (k : SizedCell). not (nat_lt than k.size)) kept) ≡ without_wider (slot_of byte kept) than
 apart_cells byte kept than = same_cells byte _ _ (less kept than)
 
 -- the cells of more bits are marked
@@ -80,5 +81,6 @@ more_marked (first ∷ kept) than width = by_test (nat_lt than first.size)
     rw (stays, here, small) refl)
     (λ there. rw (stays, there) (more_marked kept than width)))
 
-pub marked_cells : (byte : Byte) (kept : List SizedCell) (than : ℕ) → slot_of byte (map (marked_kept than) kept) ≡ with_wider_marked (slot_of byte kept) than
+pub marked_cells : (byte : Byte) (kept : List SizedCell) (than : ℕ)
+    → slot_of byte (map (marked_kept than) kept) ≡ with_wider_marked (slot_of byte kept) than
 marked_cells byte kept than = same_cells byte _ _ (more_marked kept than)

@@ -174,7 +174,8 @@ fn same_short(a: &Room, b: &Room) -> bool
 
 /// How many slots from this place on are known to be the same.
 fn same_from(a: &Room, b: &Room, at: usize) -> usize
-    ensures { (place : ℕ) → at ≤ place → place < at + result → slice_get (slots_of a.now) place ≡ slice_get (slots_of b.now) place }
+    ensures { (place : ℕ) → at ≤ place → place < at + result
+        → slice_get (slots_of a.now) place ≡ slice_get (slots_of b.now) place }
 {
     match (a, b) {
         (Room::Short(first), Room::Short(second)) => first.same_ahead(second, at),
@@ -218,7 +219,8 @@ impl FrameSlots {
     /// How many slots from this place on are known to be the same: those of a page where one begins here
     /// and is the same on both sides, else none.
     pub fn same_ahead(&self, other: &FrameSlots, at: usize) -> usize
-        ensures { (place : ℕ) → at ≤ place → place < at + result → slice_get self.now place ≡ slice_get other.now place }
+        ensures { (place : ℕ) → at ≤ place → place < at + result
+            → slice_get self.now place ≡ slice_get other.now place }
     {
         same_from(&self.room, &other.room, at)
     }

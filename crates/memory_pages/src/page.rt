@@ -1,6 +1,7 @@
 //! Pages that know whether a slot was put on them.
 
-ghost use Rattle.std.specs.Prelude.{◌≡◌, ◌<◌, ◌++◌, IsTrue, IfOk, OnOk, OnErr, true, length, replicate, slice_get, slice_set};
+ghost use Rattle.std.specs.Prelude.{◌≡◌, ◌<◌, ◌++◌, IsTrue, IfOk, OnOk, OnErr, true, length, replicate, slice_get};
+ghost use Rattle.std.specs.Prelude.{slice_set};
 ghost use Rattle.std.specs.Option.{option_map};
 ghost use Rattle.memory_pages.specs.Slots.{bare};
 ghost use Rattle.memory_pages.specs.Pages.{held, pages_of, page_at, slots_on, IsUntouched};
@@ -135,7 +136,9 @@ pub(crate) fn put_in(
 ) -> Result<(), AllocError>
     requires page { number < length pages.old }
     requires slot { at < length (page_at (pages_of pages.old) number) }
-    ensures put { OnOk result (pages_of pages.new ≡ slice_set (pages_of pages.old) number (slice_set (page_at (pages_of pages.old) number) at slot.value)) }
+    ensures put { OnOk result
+        (pages_of pages.new
+        ≡ slice_set (pages_of pages.old) number (slice_set (page_at (pages_of pages.old) number) at slot.value)) }
     ensures refused { OnErr result (pages_of pages.new ≡ pages_of pages.old) }
 {
     put_on(&mut pages[number], at, slot)

@@ -61,7 +61,9 @@ fn slot_in(list: &[Rc<Page>], number: usize, at: usize) -> Option<&Slot>
 
 /// Whether both pages are there, and are the same.
 fn are_same(a: Option<&Rc<Page>>, b: Option<&Rc<Page>>) -> bool
-    ensures { IsTrue result → list_or (option_map (λ page. slots_on page.now) a.entry) ≡ list_or (option_map (λ page. slots_on page.now) b.entry) }
+    ensures { IsTrue result
+        → list_or (option_map (λ page. slots_on page.now) a.entry)
+        ≡ list_or (option_map (λ page. slots_on page.now) b.entry) }
 {
     match (a, b) {
         (Some(first), Some(second)) => first.is_same(second),
@@ -102,7 +104,8 @@ impl<const WIDTH: usize> Pages<WIDTH> {
     /// How many slots from this place on are known to be the same: those of a page where one begins here and is
     /// the same on both sides, else none.
     pub fn same_ahead(&self, other: &Self, at: usize) -> usize
-        ensures { (place : ℕ) → at ≤ place → place < at + result → slice_get self.now place ≡ slice_get other.now place }
+        ensures { (place : ℕ) → at ≤ place → place < at + result
+            → slice_get self.now place ≡ slice_get other.now place }
     {
         let own = page_of(&self.list, at / WIDTH);
         let others = page_of(&other.list, at / WIDTH);

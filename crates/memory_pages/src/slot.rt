@@ -2,7 +2,8 @@
 
 ghost use Rattle.std.specs.Prelude.{◌≡◌, IsTrue, IfOk, OnOk, OnErr, map, ◌==◌, ◌++◌, ◌∷◌, [], nat_lt};
 ghost use Rattle.std.specs.Option.{option_map};
-ghost use Rattle.memory_pages.specs.Slots.{kept_in, bare, with_byte, with_cell, without_wider, with_wider_marked, marked_kept, cell_of, IsCellSize};
+ghost use Rattle.memory_pages.specs.Slots.{kept_in, bare, with_byte, with_cell, without_wider, with_wider_marked};
+ghost use Rattle.memory_pages.specs.Slots.{marked_kept, cell_of, IsCellSize};
 
 use crate::byte::Byte;
 use crate::held::Held;

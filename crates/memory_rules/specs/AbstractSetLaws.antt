@@ -34,11 +34,13 @@ gives_word : (answer : Option Stride) (v : ℕ) → Gives stride_sets answer v �
 gives_word None v g = let none : None ≡ Some g.0 = g.1 in cc
 gives_word (Some w) v g = subst (λ (d : Stride). CoversWord d v) (sym (same_Some w g.0 g.1)) g.2
 
-gives_only : (answer : Option Stride) (v : ℕ) → GivesOnly stride_sets answer v → IsOnly stride_sets (operand_of answer) v
+gives_only : (answer : Option Stride) (v : ℕ) → GivesOnly stride_sets answer v
+    → IsOnly stride_sets (operand_of answer) v
 gives_only None v g = let none : None ≡ Some g.0 = g.1 in cc
 gives_only (Some w) v g = subst (λ (d : Stride). IsOnly stride_sets d v) (sym (same_Some w g.0 g.1)) g.2
 
-gives_size : (answer : Option Stride) (v s : ℕ) → Gives stride_sets answer v → GivesSize stride_sets answer s → IsOfSize stride_sets s (operand_of answer)
+gives_size : (answer : Option Stride) (v s : ℕ) → Gives stride_sets answer v → GivesSize stride_sets answer s
+    → IsOfSize stride_sets s (operand_of answer)
 gives_size None v s g sized = let none : None ≡ Some g.0 = g.1 in cc
 gives_size (Some w) v s g sized = sized w refl
 
@@ -58,7 +60,8 @@ only_has x size bits s only = ((s, only.is), λ own k h. (sym h.0 ∙ s, only.on
 
 -- ---- bytes
 
-select_typed : (size low : ℕ) → IsWordSize size → low + 8 ≤ size → IsSome (result_size Select (size ∷ low ∷ (low + 7) ∷ []))
+select_typed : (size low : ℕ) → IsWordSize size → low + 8 ≤ size
+    → IsSome (result_size Select (size ∷ low ∷ (low + 7) ∷ []))
 select_typed size low is room =
     let last : low + 7 < size = omega (arith, room) in
     let first : low ≤ low + 7 = omega arith in
@@ -73,20 +76,23 @@ byte_size : (low : ℕ) → (low + 7) - low + 1 ≡ 8
 byte_size low = omega arith
 
 -- the value of select is the byte
-byte_value : (size place bits : ℕ) → value Select (size ∷ 8 * place ∷ (8 * place + 7) ∷ []) (bits ∷ []) ≡ byte_of place bits
+byte_value : (size place bits : ℕ)
+    → value Select (size ∷ 8 * place ∷ (8 * place + 7) ∷ []) (bits ∷ []) ≡ byte_of place bits
 byte_value size place bits = ap (λ (n : ℕ). bits / 2 ^ (8 * place) % 2 ^ n) (byte_size (8 * place))
 
 room_in : (x : Stride) (size place : ℕ) → x.size ≡ size → 8 * place + 8 ≤ size → 8 * place + 8 ≤ x.size
 room_in x size place s room = omega (arith, s, room)
 
-byte_sized : (x : Stride) (size place : ℕ) → 8 * place + 8 ≤ size → IsOfSize stride_sets size x → IsOfSize stride_sets 8 (low_byte place x)
+byte_sized : (x : Stride) (size place : ℕ) → 8 * place + 8 ≤ size → IsOfSize stride_sets size x
+    → IsOfSize stride_sets 8 (low_byte place x)
 byte_sized x size place room of_x =
     let r = byte_applied x place of_x.kept (room_in x size place of_x.size room) in
     let t = some_word x of_x.kept in
     subst (λ (n : ℕ). IsOfSize stride_sets n (low_byte place x)) (byte_size (8 * place))
     (gives_size (applied Select (x.size ∷ 8 * place ∷ (8 * place + 7) ∷ []) (x ∷ [])).value _ _ (r.covering (t.0 ∷ []) (t.1, tt) (λ z. false≢true z.0)) r.size)
 
-byte_has : (x : Stride) (size bits place : ℕ) → 8 * place + 8 ≤ size → IsOfSize stride_sets size x → (x.size ≡ size) × CoversWord x bits
+byte_has : (x : Stride) (size bits place : ℕ) → 8 * place + 8 ≤ size → IsOfSize stride_sets size x
+    → (x.size ≡ size) × CoversWord x bits
     → ((low_byte place x).size ≡ 8) × CoversWord (low_byte place x) (byte_of place bits)
 byte_has x size bits place room of_x h =
     let r = byte_applied x place of_x.kept (room_in x size place of_x.size room) in (
@@ -95,7 +101,8 @@ byte_has x size bits place room of_x h =
           (gives_word (applied Select (x.size ∷ 8 * place ∷ (8 * place + 7) ∷ []) (x ∷ [])).value _ (r.covering (bits ∷ []) (h.1, tt) (λ z. false≢true z.0))),
     )
 
-byte_only : (x : Stride) (size bits place : ℕ) → 8 * place + 8 ≤ size → IsOfSize stride_sets size x → OnlyHas abstract_sets x size bits
+byte_only : (x : Stride) (size bits place : ℕ) → 8 * place + 8 ≤ size → IsOfSize stride_sets size x
+    → OnlyHas abstract_sets x size bits
     → OnlyHas abstract_sets (low_byte place x) 8 (byte_of place bits)
 byte_only x size bits place room of_x h =
     let r = byte_applied x place of_x.kept (room_in x size place of_x.size room) in
@@ -166,7 +173,8 @@ alike_words size a b of_a of_b = record { first = of_a.kept; second = of_b.kept;
 alike : (size : ℕ) (a b : AbstractValue) → IsValue size a → IsValue size b → AreAlike a b
 alike size a b of_a of_b = record { size = size; first = (of_a.is, of_a.sized); second = (of_b.is, of_b.sized) }
 
-words_sized : (a b : Stride) (size : ℕ) → IsOfSize stride_sets size a → IsOfSize stride_sets size b → IsOfSize stride_sets size (joined_words a b)
+words_sized : (a b : Stride) (size : ℕ) → IsOfSize stride_sets size a → IsOfSize stride_sets size b
+    → IsOfSize stride_sets size (joined_words a b)
 words_sized a b size of_a of_b =
     let r = stride_is_sets.joined_size a b of_a.kept of_b.kept (of_a.size ∙ sym of_b.size) in
     record { kept = r.kept; size = r.size ∙ of_a.size }
@@ -180,14 +188,16 @@ covers_word x (Ptr frame offset) h = elim h [ ]
 word_parts : (v : AbstractValue) (size bits : ℕ) → Covers v (Int size bits) → HasWords abstract_sets v size bits
 word_parts v size bits h = go v.words refl h
   where
-    go : (words : Option Stride) → v.words ≡ words → IsSomeAnd words (λ x. (x.size ≡ size) × CoversWord x bits) → HasWords abstract_sets v size bits
+    go : (words : Option Stride) → v.words ≡ words → IsSomeAnd words (λ x. (x.size ≡ size) × CoversWord x bits)
+        → HasWords abstract_sets v size bits
     go None is h = elim h [ ]
     go (Some x) is h = record { word = x; is = is; member = h }
 
 pointer_parts : (v : AbstractValue) (frame offset : ℕ) → Covers v (Ptr frame offset) → has_pointer v ≡ true
 pointer_parts v frame offset h = go v.places h
   where
-    go : (places : List (ℕ × Stride)) → IsSomeAnd (offsets_in places frame) (λ offsets. CoversWord offsets offset) → some_place places ≡ true
+    go : (places : List (ℕ × Stride)) → IsSomeAnd (offsets_in places frame) (λ offsets. CoversWord offsets offset)
+        → some_place places ≡ true
     go [] h = elim h [ ]
     go (place ∷ places) h = refl
 
@@ -197,17 +207,20 @@ of_word_sized x size of_x = record {
   sized = record { words = of_x.size; places = tt };
 }
 
-word_part_sized : (v : AbstractValue) (size : ℕ) (x : Stride) → IsValue size v → v.words ≡ Some x → IsOfSize stride_sets size x
+word_part_sized : (v : AbstractValue) (size : ℕ) (x : Stride) → IsValue size v → v.words ≡ Some x
+    → IsOfSize stride_sets size x
 word_part_sized v size x of_v is = go v.words is of_v.is.words of_v.sized.words
   where
-    go : (words : Option Stride) → words ≡ Some x → IfSome words IsStride → IfSome words (λ d. d.size ≡ size) → IsOfSize stride_sets size x
+    go : (words : Option Stride) → words ≡ Some x → IfSome words IsStride → IfSome words (λ d. d.size ≡ size)
+        → IsOfSize stride_sets size x
     go None e k s = cc
     go (Some w) e k s = subst (IsOfSize stride_sets size) (same_Some w x e) (record { kept = k; size = s })
 
 as_only : (v : AbstractValue) (own : Value) → OnlyCovers abstract_sets v own → OnlyCoversValue v own
 as_only v own h = record { is = h.0; one = h.1 }
 
-only_word : (v : AbstractValue) (own size bits : ℕ) → IsValue own v → OnlyCovers abstract_sets v (Int size bits) → HasOneWord abstract_sets v size bits
+only_word : (v : AbstractValue) (own size bits : ℕ) → IsValue own v → OnlyCovers abstract_sets v (Int size bits)
+    → HasOneWord abstract_sets v size bits
 only_word v own size bits of_v only =
     let one = value_alone own v (Int size bits) of_v (as_only v (Int size bits) only) in
     go one.0 one.1 one.2
@@ -221,7 +234,8 @@ only_word v own size bits of_v only =
     }
     go (Places frame offsets) e h = elim h [ ]
 
-only_pointer : (v : AbstractValue) (own frame offset : ℕ) → IsValue own v → OnlyCovers abstract_sets v (Ptr frame offset)
+only_pointer : (v : AbstractValue) (own frame offset : ℕ) → IsValue own v
+    → OnlyCovers abstract_sets v (Ptr frame offset)
     → (v.words ≡ None) × (has_pointer v ≡ true)
 only_pointer v own frame offset of_v only =
     let one = value_alone own v (Ptr frame offset) of_v (as_only v (Ptr frame offset) only) in
@@ -231,7 +245,8 @@ only_pointer v own frame offset of_v only =
     go (Words x) e h = elim h [ ]
     go (Places f offsets) e h = (ap (λ (u : AbstractValue). u.words) e, ap has_pointer e)
 
-both_only : (a b : AbstractValue) (size : ℕ) (own : Value) → IsValue size a → IsValue size b → OnlyCovers abstract_sets a own → OnlyCovers abstract_sets b own
+both_only : (a b : AbstractValue) (size : ℕ) (own : Value) → IsValue size a → IsValue size b
+    → OnlyCovers abstract_sets a own → OnlyCovers abstract_sets b own
     → OnlyCovers abstract_sets (joined a b) own
 both_only a b size own of_a of_b h k =
     let r = joined_only size a b own of_a of_b (as_only a own h) (as_only b own k) in (r.is, r.one)

@@ -30,14 +30,16 @@ use Rattle.memory_rules.specs.Addresses.{cells_at, cells_in, cells_of, IsAddress
 
 -- ---- the offsets of a frame
 
-among_offsets : (start count offset : ℕ) → start ≤ offset → offset < start + count → Contains (offsets start count) offset
+among_offsets : (start count offset : ℕ) → start ≤ offset → offset < start + count
+    → Contains (offsets start count) offset
 among_offsets start zero offset low high = absurd (omega arith)
 among_offsets start (suc count) offset low high = by_test (start == offset)
     (λ e. subst (λ (k : ℕ). Contains (start ∷ offsets (suc start) count) k) (eqb-true start offset e) (first_member start (offsets (suc start) count)))
     (λ e. further_member start (offsets (suc start) count) offset
     (among_offsets (suc start) count offset (let apart : start ≢ offset = eqb-false start offset e in omega (arith, low, apart)) (omega (arith, high))))
 
-cell_there : (frame bits size : ℕ) (members : Stride) (list : List ℕ) (offset : ℕ) → has members offset ≡ true → fits_in bits offset size ≡ true
+cell_there : (frame bits size : ℕ) (members : Stride) (list : List ℕ) (offset : ℕ) → has members offset ≡ true
+    → fits_in bits offset size ≡ true
     → Contains list offset → Contains (cells_at frame bits size members list) (frame, offset)
 cell_there frame bits size members [] offset h fits c = no_member offset c
 cell_there frame bits size members (first ∷ others) offset h fits c = first_or_further first others offset c
@@ -53,7 +55,8 @@ cell_there frame bits size members (first ∷ others) offset h fits c = first_or
     (λ e. rw e rest))
 
 -- each of the cells has the frame, and fits it
-each_fits : (frame bits size : ℕ) (members : Stride) (list : List ℕ) (cell : ℕ × ℕ) → Contains (cells_at frame bits size members list) cell
+each_fits : (frame bits size : ℕ) (members : Stride) (list : List ℕ) (cell : ℕ × ℕ)
+    → Contains (cells_at frame bits size members list) cell
     → (cell.0 ≡ frame) × (fits_in bits cell.1 size ≡ true)
 each_fits frame bits size members [] cell c = no_member cell c
 each_fits frame bits size members (first ∷ others) cell c = by_test (has members first && fits_in bits first size)
@@ -74,7 +77,8 @@ pub record IsOn (rows : List FrameShape) (runs : ℕ → Bool) (size : ℕ) (cel
   pub active : is_on runs row.owner ≡ true
   pub fits : fits_in row.bits cell.1 size ≡ true
 
-one_on : (rows : List FrameShape) (runs : ℕ → Bool) (place : ℕ × Stride) (size : ℕ) (found : Option FrameShape) → slice_get rows place.0 ≡ found
+one_on : (rows : List FrameShape) (runs : ℕ → Bool) (place : ℕ × Stride) (size : ℕ) (found : Option FrameShape)
+    → slice_get rows place.0 ≡ found
     → (cell : ℕ × ℕ) → Contains (cells_in found runs place size) cell → IsOn rows runs size cell
 one_on rows runs place size None is cell c = no_member cell c
 one_on rows runs place size (Some row) is cell c = by_test (is_on runs row.owner)
@@ -83,7 +87,8 @@ one_on rows runs place size (Some row) is cell c = by_test (is_on runs row.owner
     record { row = row; found = ap (λ (f : ℕ). slice_get rows f) k.0 ∙ is; active = e; fits = k.1 })
     (λ e. no_member cell (rw e at c))
 
-each_on : (rows : List FrameShape) (runs : ℕ → Bool) (size : ℕ) (places : List (ℕ × Stride)) (cell : ℕ × ℕ) → Contains (cells_of rows runs places size) cell
+each_on : (rows : List FrameShape) (runs : ℕ → Bool) (size : ℕ) (places : List (ℕ × Stride)) (cell : ℕ × ℕ)
+    → Contains (cells_of rows runs places size) cell
     → IsOn rows runs size cell
 each_on rows runs size [] cell c = no_member cell c
 each_on rows runs size (place ∷ places) cell c =
@@ -105,7 +110,8 @@ fits_below bits offset size is fits =
     let low : offset * 8 + size ≤ bits = leb-true (offset * 8 + size) bits fits in
     omega (arith, is.0, low)
 
-here_on : (found : Option FrameShape) (row : FrameShape) (runs : ℕ → Bool) (place : ℕ × Stride) (offset size : ℕ) → found ≡ Some row → IsCellSize size
+here_on : (found : Option FrameShape) (row : FrameShape) (runs : ℕ → Bool) (place : ℕ × Stride) (offset size : ℕ)
+    → found ≡ Some row → IsCellSize size
     → is_on runs row.owner ≡ true → fits_in row.bits offset size ≡ true → has place.1 offset ≡ true
     → Contains (cells_in found runs place size) (place.0, offset)
 here_on None row runs place offset size is cell active fits member = cc

@@ -61,14 +61,16 @@ one_offset frame bits size members start (suc count) offset low high test others
       rw here (one_offset frame bits size members (suc start) count offset (omega (arith, low, differ)) (omega (arith, high)) test others)
 ]
 
-not_there : (members : Stride) (offset : ℕ) → IsStride members → IsOnly stride_sets members offset → (k : ℕ) → k ≢ offset → has members k ≡ false
+not_there : (members : Stride) (offset : ℕ) → IsStride members → IsOnly stride_sets members offset → (k : ℕ)
+    → k ≢ offset → has members k ≡ false
 not_there members offset is only k differ = by_test (has members k)
     (λ e. absurd (differ (only.one k ((has_tells members k is).0 e))))
     (λ e. e)
 
 -- ---- one cell
 
-in_frame : (found : Option FrameShape) (runs : ℕ → Bool) (frame offset size : ℕ) (members : Stride) → IsCellSize size → IsStride members
+in_frame : (found : Option FrameShape) (runs : ℕ → Bool) (frame offset size : ℕ) (members : Stride) → IsCellSize size
+    → IsStride members
     → IsOnly stride_sets members offset
     → cells_in found runs (frame, members) size ≡ cells_told (tested_in found runs frame offset size)
 in_frame None runs frame offset size members is of_members only = refl
@@ -86,14 +88,16 @@ in_frame (Some row) runs frame offset size members is of_members only = by_test 
     (λ off. rw off refl)
 
 -- an address with one member may mean this cell alone
-pub one_cell : (rows : List FrameShape) (runs : ℕ → Bool) (at : AbstractValue) (place : Value) (size : ℕ) → IsCellSize size → IsValue 32 at
+pub one_cell : (rows : List FrameShape) (runs : ℕ → Bool) (at : AbstractValue) (place : Value) (size : ℕ)
+    → IsCellSize size → IsValue 32 at
     → OnlyCovers abstract_sets at place
     → cells_of rows runs at.places size ≡ cells_told (tested rows runs place size)
 one_cell rows runs at place size is of_at only =
     let one = value_alone 32 at place of_at (record { is = only.0; one = only.1 }) in
     go one.0 place one.1 one.2
   where
-    go : (x : Alternative) (place : Value) → at ≡ alone x → OnlyOf x place → cells_of rows runs at.places size ≡ cells_told (tested rows runs place size)
+    go : (x : Alternative) (place : Value) → at ≡ alone x → OnlyOf x place
+        → cells_of rows runs at.places size ≡ cells_told (tested rows runs place size)
     go (Words words) (Int own word) e h = ap (λ (v : AbstractValue). cells_of rows runs v.places size) e
     go (Words words) (Ptr frame offset) e h = elim h [ ]
     go (Places frame members) (Int own word) e h = elim h [ ]
@@ -111,7 +115,8 @@ only_fault : (rows : List FrameShape) (runs : ℕ → Bool) (at : AbstractValue)
 only_fault rows runs at place size fault only (other, covers, is) = subst (λ (p : Value). tested rows runs p size ≡ Err fault) (only.1 other covers) is
 
 -- no fault is told where the address has none
-no_fault : (rows : List FrameShape) (runs : ℕ → Bool) (at : AbstractValue) (place : Value) (size : ℕ) (cell : ℕ × ℕ) → OnlyCovers abstract_sets at place
+no_fault : (rows : List FrameShape) (runs : ℕ → Bool) (at : AbstractValue) (place : Value) (size : ℕ) (cell : ℕ × ℕ)
+    → OnlyCovers abstract_sets at place
     → tested rows runs place size ≡ Ok cell → (fault : RunFault) → IsAddressFault rows runs at size fault → ⊥
 no_fault rows runs at place size cell only test fault told =
     let e : Ok cell ≡ Err fault = sym test ∙ only_fault rows runs at place size fault only told in cc
@@ -177,7 +182,8 @@ loads_only rows m history at (Int own word) size sized sharp is of_at only =
     fault_only rows m at (Int own word) size Kind only refl (one_cell rows m.runs at (Int own word) size is of_at only)
 loads_only rows m history at (Ptr frame offset) size sized sharp is of_at only = go (slice_get rows frame) refl
   where
-    cells : (result : Result (ℕ × ℕ) RunFault) → tested rows m.runs (Ptr frame offset) size ≡ result → cells_of rows m.runs at.places size ≡ cells_told result
+    cells : (result : Result (ℕ × ℕ) RunFault) → tested rows m.runs (Ptr frame offset) size ≡ result
+        → cells_of rows m.runs at.places size ≡ cells_told result
     cells result test = one_cell rows m.runs at (Ptr frame offset) size is of_at only ∙ ap cells_told test
 
     go : (found : Option FrameShape) → slice_get rows frame ≡ found

@@ -55,7 +55,8 @@ abbrev pub cells_of : List FrameShape → (ℕ → Bool) → List (ℕ × Stride
 cells_of rows runs [] size = []
 cells_of rows runs (place ∷ places) size = cells_in (slice_get rows place.0) runs place size ++ cells_of rows runs places size
 
--- some address that is covered has the fault: a word has kind, a pointer into an inactive frame dead, an offset that does not fit bounds
+-- some address that is covered has the fault: a word has kind, a pointer into an inactive frame dead, an offset that
+-- does not fit bounds
 abbrev pub IsAddressFault : List FrameShape → (ℕ → Bool) → AbstractValue → ℕ → RunFault → Type 0
 IsAddressFault rows runs at size fault = (place : Value) × Covers at place × (tested rows runs place size ≡ Err fault)
 
@@ -92,7 +93,8 @@ LoadsAt = (rows : List FrameShape) (m : Mem abstract_sets) (history : List RunEv
     → IsSound history → MemSized abstract_sets m → MemCovers abstract_sets rows m history → IsCellSize size → IsValue 32 at → Covers at place
     → TellsLoad rows m at size (load rows history place size)
 
--- after a store through an address that is covered, of a value that is covered, the memory covers the history with the store, and some cell is possible
+-- after a store through an address that is covered, of a value that is covered, the memory covers the history with the
+-- store, and some cell is possible
 abbrev pub StoresAt : Type 0
 StoresAt = (rows : List FrameShape) (m : Mem abstract_sets) (history after : List RunEvent) (at set : AbstractValue) (place value : Value)
     → IsSound history → MemSized abstract_sets m → MemCovers abstract_sets rows m history → IsCellSize (size_of value)

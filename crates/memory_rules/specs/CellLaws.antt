@@ -25,14 +25,16 @@ same_is offset size place width same =
     (eqb-true place offset parts.0, eqb-true width size parts.1)
 
 -- cells that share no byte lie apart
-pub apart : (offset size place width : ℕ) → share_byte offset size place width ≡ false → (place + width / 8 ≤ offset) ⊎ (offset + size / 8 ≤ place)
+pub apart : (offset size place width : ℕ) → share_byte offset size place width ≡ false
+    → (place + width / 8 ≤ offset) ⊎ (offset + size / 8 ≤ place)
 apart offset size place width none = elim (and_cases _ _ none) [
   | inl a ↦ inl (ltb-false offset (place + width / 8) a)
   | inr b ↦ inr (ltb-false place (offset + size / 8) b)
 ]
 
 -- cells that share a byte
-pub shared : (offset size place width : ℕ) → IsCellSize size → IsCellSize width → share_byte offset size place width ≡ true
+pub shared : (offset size place width : ℕ) → IsCellSize size → IsCellSize width
+    → share_byte offset size place width ≡ true
     → (byte : ℕ) × (offset ≤ byte) × (byte < offset + size / 8) × (place ≤ byte) × (byte < place + width / 8)
 shared offset size place width is is_too share =
     let parts = and_parts _ _ share in
@@ -41,7 +43,8 @@ shared offset size place width is is_too share =
     (max offset place, omega arith, omega (arith, is.0), omega arith, omega (arith, is_too.0))
 
 -- after a store no other cell that shares a byte with it is whole
-pub broken : (from : ℕ → Option Byte) (offset size : ℕ) (value : Value) (place width : ℕ) → IsCellSize size → IsCellSize width
+pub broken : (from : ℕ → Option Byte) (offset size : ℕ) (value : Value) (place width : ℕ) → IsCellSize size
+    → IsCellSize width
     → is_same offset size place width ≡ false → share_byte offset size place width ≡ true → is_whole (put offset size value from) place width ≡ false
 broken from offset size value place width is is_too differ share = by_test (is_whole (put offset size value from) place width)
     (λ whole.
@@ -57,7 +60,8 @@ broken from offset size value place width is is_too differ share = by_test (is_w
 
 module _ (d : ValueSets) (laws : IsValueSets d) (bits : ℕ) (m : FrameMem d) (from : ℕ → Option Byte) (h : FrameHolds d bits m from) where
   -- what is not kept covers the load by its flags
-  pub not_kept_holds : (offset size : ℕ) → is_whole from offset size ≡ false → FlagCovers d (not_kept (taken d m offset size)) (cell_in from offset size)
+  pub not_kept_holds : (offset size : ℕ) → is_whole from offset size ≡ false
+      → FlagCovers d (not_kept (taken d m offset size)) (cell_in from offset size)
   not_kept_holds offset size many = go (reading from offset size)
     where
       go : Reading (map from (bytes_of offset size)) offset size (cell_in from offset size)
@@ -68,7 +72,8 @@ module _ (d : ValueSets) (laws : IsValueSets d) (bits : ℕ) (m : FrameMem d) (f
       go (reads_word some more no_pointer r) = rw r (inr (all_stored d laws m.bytes from h.bytes offset (size / 8) some, refl))
 
   -- a cell as it stands covers the load
-  pub stands_holds : (offset size : ℕ) → IsCellSize size → fits_in bits offset size ≡ true → FlagCovers d (stands d m offset size) (cell_in from offset size)
+  pub stands_holds : (offset size : ℕ) → IsCellSize size → fits_in bits offset size ≡ true
+      → FlagCovers d (stands d m offset size) (cell_in from offset size)
   stands_holds offset size is fits = go (m.cells offset size) refl
     where
       go : (kept : Option (Cell d.Val)) → m.cells offset size ≡ kept

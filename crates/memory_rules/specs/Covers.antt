@@ -39,11 +39,13 @@ module _ (d : ValueSets) where
 
   pub record FrameCovers (bits : ℕ) (m : FrameMem d) (from : ℕ → Option Byte) : Type 0 where
     pub bytes : (byte : ℕ) → ByteCovers (m.bytes byte) (from byte)
-    pub kept : (offset size : ℕ) (cell : Cell d.Val) → m.cells offset size ≡ Some cell → IsCellSize size → fits_in bits offset size ≡ true
+    pub kept : (offset size : ℕ) (cell : Cell d.Val) → m.cells offset size ≡ Some cell → IsCellSize size
+        → fits_in bits offset size ≡ true
         → Among (cell_in from offset size) (results d (taken d m offset size) cell)
     pub others : (offset size : ℕ) → m.cells offset size ≡ None → IsCellSize size → is_whole from offset size ≡ false
 
 -- the values that are kept have their sizes: 8 in a byte, the cell's in a cell
 pub record FrameSized (d : ValueSets) (m : FrameMem d) : Type 0 where
   pub bytes : (byte : ℕ) → IfSome (m.bytes byte).value (λ word. d.sized word 8)
-  pub kept : (offset size : ℕ) (cell : Cell d.Val) → m.cells offset size ≡ Some cell → IfSome cell.value (λ set. d.val_sized set size)
+  pub kept : (offset size : ℕ) (cell : Cell d.Val) → m.cells offset size ≡ Some cell
+      → IfSome cell.value (λ set. d.val_sized set size)

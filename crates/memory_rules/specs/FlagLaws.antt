@@ -25,7 +25,8 @@ use Rattle.memory_rules.specs.Flags.{FlagFault, FlagCovers}
 
 module _ (d : ValueSets) (laws : IsValueSets d) where
   -- from results to flags
-  word_is : (words : Option (List d.Word)) (value : Value) → Among d (Ok value) (words_result d words) → is_pointer value ≡ false
+  word_is : (words : Option (List d.Word)) (value : Value) → Among d (Ok value) (words_result d words)
+      → is_pointer value ≡ false
   word_is None value h = elim h [ ]
   word_is (Some words) value h = go (concatenated d words) h
     where
@@ -58,12 +59,14 @@ module _ (d : ValueSets) (laws : IsValueSets d) where
       mixed true (inr h) = h
       mixed false h = h
 
-      read : (x : Bool) → Among d (Ok value) (if x then from_bytes d bytes else []) → (x ≡ true) × (is_pointer value ≡ false)
+      read : (x : Bool) → Among d (Ok value) (if x then from_bytes d bytes else [])
+          → (x ≡ true) × (is_pointer value ≡ false)
       read true h =
           elim (among_cases d (Ok value) (words_result d (values_in bytes)) _ h) [ inl w ↦ (refl, word_is (values_in bytes) value w) | inr m ↦ absurd (mixed _ m) ]
       read false h = elim h [ ]
 
-      further : (u x : Bool) → Among d (Ok value) ((if u then Err Uninit ∷ [] else []) ++ (if x then from_bytes d bytes else []))
+      further : (u x : Bool)
+          → Among d (Ok value) ((if u then Err Uninit ∷ [] else []) ++ (if x then from_bytes d bytes else []))
           → (x ≡ true) × (is_pointer value ≡ false)
       further true x (inl h) = elim h [ ]
       further true x (inr h) = read x h
@@ -84,25 +87,29 @@ module _ (d : ValueSets) (laws : IsValueSets d) where
       mixed true (inr h) = elim h [ ]
       mixed false h = elim h [ ]
 
-      read : (u x : Bool) → Among d (Err fault) (if x then from_bytes d bytes else []) → FlagFault {V = d.Val} (record { value = set; u = u; x = x }) fault
+      read : (u x : Bool) → Among d (Err fault) (if x then from_bytes d bytes else [])
+          → FlagFault {V = d.Val} (record { value = set; u = u; x = x }) fault
       read u true h = elim (among_cases d (Err fault) (words_result d (values_in bytes)) _ h) [
         | inl w ↦ absurd (fault_is (values_in bytes) fault w)
         | inr m ↦ subst (λ (f : RunFault). FlagFault {V = d.Val} (record { value = set; u = u; x = true }) f) (mixed _ m) refl
       ]
       read u false h = elim h [ ]
 
-      further : (u x : Bool) → Among d (Err fault) ((if u then Err Uninit ∷ [] else []) ++ (if x then from_bytes d bytes else []))
+      further : (u x : Bool)
+          → Among d (Err fault) ((if u then Err Uninit ∷ [] else []) ++ (if x then from_bytes d bytes else []))
           → FlagFault {V = d.Val} (record { value = set; u = u; x = x }) fault
       further true x (inl h) = subst (λ (f : RunFault). FlagFault {V = d.Val} (record { value = set; u = true; x = x }) f) h refl
       further true x (inr h) = read true x h
       further false x h = read false x h
 
-  pub to_flags : (bytes : List (AbstractByte d.Word)) (cell : Cell d.Val) (r : Result Value RunFault) → Among d r (results d bytes cell) → FlagCovers d cell r
+  pub to_flags : (bytes : List (AbstractByte d.Word)) (cell : Cell d.Val) (r : Result Value RunFault)
+      → Among d r (results d bytes cell) → FlagCovers d cell r
   to_flags bytes cell (Ok value) h = value_flag bytes value cell.value cell.u cell.x h
   to_flags bytes cell (Err fault) h = fault_flag bytes fault cell.value cell.u cell.x h
 
   -- the three parts of the results
-  in_value : (bytes : List (AbstractByte d.Word)) (cell : Cell d.Val) (value : Value) → IsSomeAnd cell.value (λ set. d.covers set value)
+  in_value : (bytes : List (AbstractByte d.Word)) (cell : Cell d.Val) (value : Value)
+      → IsSomeAnd cell.value (λ set. d.covers set value)
       → Among d (Ok value) (results d bytes cell)
   in_value bytes cell value h = among_left d (Ok value) (value_result d cell.value) _ (go cell.value h)
     where
@@ -110,15 +117,18 @@ module _ (d : ValueSets) (laws : IsValueSets d) where
       go None h = elim h [ ]
       go (Some a) h = inl h
 
-  in_u : (bytes : List (AbstractByte d.Word)) (cell : Cell d.Val) → cell.u ≡ true → Among d (Err Uninit) (results d bytes cell)
+  in_u : (bytes : List (AbstractByte d.Word)) (cell : Cell d.Val) → cell.u ≡ true
+      → Among d (Err Uninit) (results d bytes cell)
   in_u bytes cell h =
       among_right d (Err Uninit) (value_result d cell.value) _ (among_left d (Err Uninit) (if cell.u then Err Uninit ∷ [] else []) _ (rw h (inl refl)))
 
-  in_x : (bytes : List (AbstractByte d.Word)) (cell : Cell d.Val) (r : Result Value RunFault) → cell.x ≡ true → Among d r (from_bytes d bytes)
+  in_x : (bytes : List (AbstractByte d.Word)) (cell : Cell d.Val) (r : Result Value RunFault) → cell.x ≡ true
+      → Among d r (from_bytes d bytes)
       → Among d r (results d bytes cell)
   in_x bytes cell r h among = among_right d r (value_result d cell.value) _ (among_right d r (if cell.u then Err Uninit ∷ [] else []) _ (rw h among))
 
-  in_mixed : (bytes : List (AbstractByte d.Word)) → list_any (λ (byte : AbstractByte d.Word). byte.p) bytes ≡ true → Among d (Err Mixed) (from_bytes d bytes)
+  in_mixed : (bytes : List (AbstractByte d.Word)) → list_any (λ (byte : AbstractByte d.Word). byte.p) bytes ≡ true
+      → Among d (Err Mixed) (from_bytes d bytes)
   in_mixed bytes h = among_right d (Err Mixed) (words_result d (values_in bytes)) _ (rw h (inl refl))
 
   -- from flags to results
@@ -126,7 +136,8 @@ module _ (d : ValueSets) (laws : IsValueSets d) where
       (cell : Cell d.Val) (offset size : ℕ) → IsCellSize size → FlagCovers d cell (cell_in from offset size) → Among d (cell_in from offset size) (results d (taken d m offset size) cell)
   from_flags m from sized covered table cell offset size is h = go (reading from offset size)
     where
-      words : list_any is_empty (map from (bytes_of offset size)) ≡ false → list_any of_pointer (map from (bytes_of offset size)) ≡ false
+      words : list_any is_empty (map from (bytes_of offset size)) ≡ false
+          → list_any of_pointer (map from (bytes_of offset size)) ≡ false
           → Among d (Ok (Int size (word_of (map from (bytes_of offset size))))) (from_bytes d (taken d m offset size))
       words some no_pointer =
           let n : size / 8 * 8 ≡ size = omega (arith, is.1) in

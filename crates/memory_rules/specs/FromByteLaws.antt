@@ -19,16 +19,19 @@ use Rattle.memory_rules.specs.Covers.{HoldsByte, ByteCovers, Among}
 use Rattle.memory_rules.specs.FromBytes.{Member, OnlyMember, Holds, Concatenates}
 
 module _ (d : ValueSets) where
-  pub among_left : (r : Result Value RunFault) (xs ys : List (Result d.Val RunFault)) → Among d r xs → Among d r (xs ++ ys)
+  pub among_left : (r : Result Value RunFault) (xs ys : List (Result d.Val RunFault)) → Among d r xs
+      → Among d r (xs ++ ys)
   among_left r [] ys h = elim h [ ]
   among_left r (x ∷ xs) ys (inl h) = inl h
   among_left r (x ∷ xs) ys (inr h) = inr (among_left r xs ys h)
 
-  pub among_right : (r : Result Value RunFault) (xs ys : List (Result d.Val RunFault)) → Among d r ys → Among d r (xs ++ ys)
+  pub among_right : (r : Result Value RunFault) (xs ys : List (Result d.Val RunFault)) → Among d r ys
+      → Among d r (xs ++ ys)
   among_right r [] ys h = h
   among_right r (x ∷ xs) ys h = inr (among_right r xs ys h)
 
-  pub among_cases : (r : Result Value RunFault) (xs ys : List (Result d.Val RunFault)) → Among d r (xs ++ ys) → Among d r xs ⊎ Among d r ys
+  pub among_cases : (r : Result Value RunFault) (xs ys : List (Result d.Val RunFault)) → Among d r (xs ++ ys)
+      → Among d r xs ⊎ Among d r ys
   among_cases r [] ys h = inr h
   among_cases r (x ∷ xs) ys (inl h) = inl (inl h)
   among_cases r (x ∷ xs) ys (inr h) = elim (among_cases r xs ys h) [ inl a ↦ inl (inr a) | inr b ↦ inr b ]
@@ -52,7 +55,8 @@ module _ (d : ValueSets) (laws : IsValueSets d) (bytes : ℕ → AbstractByte d.
   p_at : (byte : ℕ) → of_pointer (from byte) ≡ true → (bytes byte).p ≡ true
   p_at byte pointer = go (from byte) (covered byte) pointer
     where
-      at : (value : Value) (place : ℕ) → HoldsByte d (bytes byte) value place → is_pointer value ≡ true → (bytes byte).p ≡ true
+      at : (value : Value) (place : ℕ) → HoldsByte d (bytes byte) value place → is_pointer value ≡ true
+          → (bytes byte).p ≡ true
       at (Int size bits) place h pointer = absurd (false≢true pointer)
       at (Ptr frame offset) place h pointer = h
 
@@ -78,7 +82,8 @@ module _ (d : ValueSets) (laws : IsValueSets d) (bytes : ℕ → AbstractByte d.
       at (Int size bits) place h = or_left _ _ (has_some (bytes byte).value (λ word. d.has word 8 (byte_of place bits)) h)
       at (Ptr frame offset) place h = or_right _ _ h
 
-      go : (stored : Option Byte) → ByteCovers d (bytes byte) stored → is_empty stored ≡ false → is_stored (bytes byte) ≡ true
+      go : (stored : Option Byte) → ByteCovers d (bytes byte) stored → is_empty stored ≡ false
+          → is_stored (bytes byte) ≡ true
       go None h some = absurd (false≢true (sym some))
       go (Some stored) h some = at stored.value stored.place h
 
@@ -97,27 +102,32 @@ module _ (d : ValueSets) (laws : IsValueSets d) (bytes : ℕ → AbstractByte d.
       at (Int size bits) place h words = h
       at (Ptr frame offset) place h words = absurd (false≢true (sym words))
 
-      go : (stored : Option Byte) → ByteCovers d (bytes byte) stored → is_empty stored ≡ false → of_pointer stored ≡ false
+      go : (stored : Option Byte) → ByteCovers d (bytes byte) stored → is_empty stored ≡ false
+          → of_pointer stored ≡ false
           → IsSomeAnd (bytes byte).value (λ word. d.has word 8 (bits_at stored))
       go None h some words = absurd (false≢true (sym some))
       go (Some stored) h some words = at stored.value stored.place h words
 
 -- what holds where there is some, and of some
-pub both_hold : {A : Type 0} (S P : A → Type 0) (value : Option A) → IfSome value S → IsSomeAnd value P → IsSomeAnd value (λ a. S a × P a)
+pub both_hold : {A : Type 0} (S P : A → Type 0) (value : Option A) → IfSome value S → IsSomeAnd value P
+    → IsSomeAnd value (λ a. S a × P a)
 both_hold S P None s h = elim h [ ]
 both_hold S P (Some a) s h = (s, h)
 
-pub member_conc : (d : ValueSets) (laws : IsValueSets d) (a b : d.Word) (size x y : ℕ) → size + 8 ≤ 64 → Member d a size x → Member d b 8 y
+pub member_conc : (d : ValueSets) (laws : IsValueSets d) (a b : d.Word) (size x y : ℕ) → size + 8 ≤ 64
+    → Member d a size x → Member d b 8 y
     → Member d (d.conc a b) (size + 8) (x * 256 + y)
 member_conc d laws a b size x y few h k = (laws.conc_sized a b size few h.0 k.0, laws.conc_has a b size x y few h.0 k.0 h.1 k.1)
 
-pub only_conc : (d : ValueSets) (laws : IsValueSets d) (a b : d.Word) (size x y : ℕ) → size + 8 ≤ 64 → OnlyMember d a size x → OnlyMember d b 8 y
+pub only_conc : (d : ValueSets) (laws : IsValueSets d) (a b : d.Word) (size x y : ℕ) → size + 8 ≤ 64
+    → OnlyMember d a size x → OnlyMember d b 8 y
     → OnlyMember d (d.conc a b) (size + 8) (x * 256 + y)
 only_conc d laws a b size x y few h k = (laws.conc_sized a b size few h.0 k.0, laws.conc_only a b size x y few h.0 k.0 h.1 k.1)
 
 -- a relation that concatenation keeps: membership, and being the only member
 module _ (d : ValueSets) (H : d.Word → ℕ → ℕ → Type 0) (conc_keeps : (a b : d.Word) (size x y : ℕ) → size + 8 ≤ 64 → H a size x → H b 8 y → H (d.conc a b) (size + 8) (x * 256 + y)) where
-  appended_keeps : (high : Option d.Word) (low : d.Word) (size x y : ℕ) → size + 8 ≤ 64 → Holds d H high size x → H low 8 y
+  appended_keeps : (high : Option d.Word) (low : d.Word) (size x y : ℕ) → size + 8 ≤ 64 → Holds d H high size x
+      → H low 8 y
       → H (appended d high low) (size + 8) (x * 256 + y)
   appended_keeps None low size x y few (no_size, no_bits) h =
       let s : 8 ≡ size + 8 = omega arith in
@@ -133,7 +143,8 @@ module _ (d : ValueSets) (H : d.Word → ℕ → ℕ → Type 0) (conc_keeps : (
       let fewer : count * 8 ≤ 64 = omega (arith, few) in
       go (bytes offset).value refl (each offset (omega arith) (omega arith)) (bytes_concatenate bytes from (suc offset) count fewer (λ byte low high. each byte (omega arith) (omega arith)))
     where
-      go : (value : Option d.Word) → (bytes offset).value ≡ value → IsSomeAnd value (λ word. H word 8 (bits_at (from offset)))
+      go : (value : Option d.Word) → (bytes offset).value ≡ value
+          → IsSomeAnd value (λ word. H word 8 (bits_at (from offset)))
           → Concatenates d H (map bytes (offsets (suc offset) count)) (count * 8) (word_of (map from (offsets (suc offset) count)))
           → Concatenates d H (map bytes (offsets offset (suc count))) (suc count * 8) (word_of (map from (offsets offset (suc count))))
       go None is h rest = elim h [ ]

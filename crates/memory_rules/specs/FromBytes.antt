@@ -17,7 +17,8 @@ abbrev pub Holds : (d : ValueSets) → (d.Word → ℕ → ℕ → Type 0) → O
 Holds d H None size bits = (size ≡ 0) × (bits ≡ 0)
 Holds d H (Some word) size bits = H word size bits
 
-pub record Concatenates (d : ValueSets) (H : d.Word → ℕ → ℕ → Type 0) (bytes : List (AbstractByte d.Word)) (size bits : ℕ) : Type 0 where
+pub record Concatenates (d : ValueSets) (H : d.Word → ℕ → ℕ → Type 0) (bytes : List (AbstractByte d.Word))
+    (size bits : ℕ) : Type 0 where
   pub words : List d.Word
   pub are : values_in bytes ≡ Some words
   pub hold : Holds d H (concatenated d words) size bits

@@ -22,7 +22,8 @@ use Rattle.memory_rules.specs.UpdateLaws.{stands_sized}
 use Rattle.memory_rules.specs.Gathered.{EachSized, WordSized}
 
 module _ (d : ValueSets) (laws : IsValueSets d) (size : ℕ) where
-  sized_append : (xs ys : List (Result d.Val RunFault)) → EachSized d size xs → EachSized d size ys → EachSized d size (xs ++ ys)
+  sized_append : (xs ys : List (Result d.Val RunFault)) → EachSized d size xs → EachSized d size ys
+      → EachSized d size (xs ++ ys)
   sized_append [] ys s t = t
   sized_append (Ok set ∷ xs) ys s t = (s.0, sized_append xs ys s.1 t)
   sized_append (Err fault ∷ xs) ys s t = sized_append xs ys s t
@@ -32,7 +33,8 @@ module _ (d : ValueSets) (laws : IsValueSets d) (size : ℕ) where
   step_sized before set s t =
       either_alike d.join (λ a. d.val_sized a size) (λ a. d.val_sized a size) (λ x y. laws.joined_sized x y size) before (Some set) s t
 
-  pub value_kept : (before : Option d.Val) (rs : List (Result d.Val RunFault)) (value : Value) → IfSome before (λ a. d.val_sized a size) → EachSized d size rs
+  pub value_kept : (before : Option d.Val) (rs : List (Result d.Val RunFault)) (value : Value)
+      → IfSome before (λ a. d.val_sized a size) → EachSized d size rs
       → IsSomeAnd before (λ a. d.covers a value) → IsSomeAnd (joined_values d before rs) (λ a. d.covers a value)
   value_kept before [] value s each h = h
   value_kept before (Ok set ∷ rs) value s each h =
@@ -40,7 +42,8 @@ module _ (d : ValueSets) (laws : IsValueSets d) (size : ℕ) where
       (either_left d.join (λ a. d.val_sized a size) (λ a. d.covers a value) (λ x y. laws.joined_left x y size value) before (Some set) s each.0 h)
   value_kept before (Err fault ∷ rs) value s each h = value_kept before rs value s each h
 
-  pub value_gathered : (before : Option d.Val) (rs : List (Result d.Val RunFault)) (value : Value) → IfSome before (λ a. d.val_sized a size)
+  pub value_gathered : (before : Option d.Val) (rs : List (Result d.Val RunFault)) (value : Value)
+      → IfSome before (λ a. d.val_sized a size)
       → EachSized d size rs → Among d (Ok value) rs → IsSomeAnd (joined_values d before rs) (λ a. d.covers a value)
   value_gathered before [] value s each h = elim h [ ]
   value_gathered before (Ok set ∷ rs) value s each (inl h) =
@@ -51,7 +54,8 @@ module _ (d : ValueSets) (laws : IsValueSets d) (size : ℕ) where
   value_gathered before (Err fault ∷ rs) value s each (inl h) = elim h [ ]
   value_gathered before (Err fault ∷ rs) value s each (inr h) = value_gathered before rs value s each h
 
-  pub fault_gathered : (rs : List (Result d.Val RunFault)) (fault : RunFault) → Among d (Err fault) rs → Contains (faults_of d rs) fault
+  pub fault_gathered : (rs : List (Result d.Val RunFault)) (fault : RunFault) → Among d (Err fault) rs
+      → Contains (faults_of d rs) fault
   fault_gathered [] fault h = elim h [ ]
   fault_gathered (Ok set ∷ rs) fault (inl h) = elim h [ ]
   fault_gathered (Ok set ∷ rs) fault (inr h) = fault_gathered rs fault h
@@ -59,7 +63,8 @@ module _ (d : ValueSets) (laws : IsValueSets d) (size : ℕ) where
   fault_gathered (Err told ∷ rs) fault (inr h) = let k = fault_gathered rs fault h in (suc k.0, omega (arith, k.1), k.2)
 
   -- exactly this value
-  pub exact_values : (before : Option d.Val) (rs : List (Result d.Val RunFault)) (value : Value) → IfSome before (λ a. d.val_sized a size)
+  pub exact_values : (before : Option d.Val) (rs : List (Result d.Val RunFault)) (value : Value)
+      → IfSome before (λ a. d.val_sized a size)
       → EachSized d size rs → IfSome before (λ a. OnlyCovers d a value) → EachIs d (Ok value) rs
       → IfSome (joined_values d before rs) (λ a. OnlyCovers d a value) × (faults_of d rs ≡ [])
   exact_values before [] value s sizes h each = (h, refl)
@@ -73,20 +78,23 @@ module _ (d : ValueSets) (laws : IsValueSets d) (size : ℕ) where
   exact_values before (Err fault ∷ rs) value s sizes h each = elim each.0 [ ]
 
   -- exactly this fault
-  pub exact_faults : (before : Option d.Val) (rs : List (Result d.Val RunFault)) (fault : RunFault) → EachIs d (Err fault) rs
+  pub exact_faults : (before : Option d.Val) (rs : List (Result d.Val RunFault)) (fault : RunFault)
+      → EachIs d (Err fault) rs
       → joined_values d before rs ≡ before
   exact_faults before [] fault each = refl
   exact_faults before (Ok set ∷ rs) fault each = elim each.0 [ ]
   exact_faults before (Err told ∷ rs) fault each = exact_faults before rs fault each.1
 
 module _ (d : ValueSets) (laws : IsValueSets d) (m : FrameMem d) (sized : FrameSized d m) where
-  pub words_sized : (offset count : ℕ) (words : List d.Word) → count * 8 ≤ 64 → values_in (map m.bytes (offsets offset count)) ≡ Some words
+  pub words_sized : (offset count : ℕ) (words : List d.Word) → count * 8 ≤ 64
+      → values_in (map m.bytes (offsets offset count)) ≡ Some words
       → WordSized d (concatenated d words) (count * 8)
   words_sized offset zero words few is = let e : [] ≡ words = cc in subst (λ (w : List d.Word). WordSized d (concatenated d w) 0) e refl
   words_sized offset (suc count) words few is =
       go (m.bytes offset).value (values_in (map m.bytes (offsets (suc offset) count))) refl refl (sized.bytes offset) is (λ lows e. words_sized (suc offset) count lows (omega (arith, few)) e)
     where
-      two : (high : Option d.Word) (low : d.Word) → WordSized d high (count * 8) → d.sized low 8 → d.sized (appended d high low) (suc count * 8)
+      two : (high : Option d.Word) (low : d.Word) → WordSized d high (count * 8) → d.sized low 8
+          → d.sized (appended d high low) (suc count * 8)
       two None low none s = let e : 8 ≡ suc count * 8 = omega arith in subst (λ (n : ℕ). d.sized low n) e s
       two (Some high) low h s =
           let e : count * 8 + 8 ≡ suc count * 8 = omega arith in subst (λ (n : ℕ). d.sized (d.conc high low) n) e (laws.conc_sized high low (count * 8) (omega (arith, few)) h s)
@@ -110,7 +118,8 @@ module _ (d : ValueSets) (laws : IsValueSets d) (m : FrameMem d) (sized : FrameS
       sized_append d laws size (value_result d (stands d m offset size).value) _ (of_value (stands d m offset size).value (stands_sized d laws m sized offset size))
       (sized_append d laws size (if (stands d m offset size).u then Err Uninit ∷ [] else []) _ (of_fault Uninit (stands d m offset size).u) (of_x (stands d m offset size).x))
     where
-      of_value : (value : Option d.Val) → IfSome value (λ a. d.val_sized a size) → EachSized d size (value_result d value)
+      of_value : (value : Option d.Val) → IfSome value (λ a. d.val_sized a size)
+          → EachSized d size (value_result d value)
       of_value None s = tt
       of_value (Some a) s = (s, tt)
 
@@ -122,7 +131,8 @@ module _ (d : ValueSets) (laws : IsValueSets d) (m : FrameMem d) (sized : FrameS
       of_word None s = tt
       of_word (Some word) s = (laws.of_word_sized word size s, tt)
 
-      of_words : (words : Option (List d.Word)) → values_in (taken d m offset size) ≡ words → EachSized d size (words_result d words)
+      of_words : (words : Option (List d.Word)) → values_in (taken d m offset size) ≡ words
+          → EachSized d size (words_result d words)
       of_words None at = tt
       of_words (Some words) at =
           let n : size / 8 * 8 ≡ size = omega (arith, is.1) in
@@ -140,25 +150,29 @@ module _ (d : ValueSets) (laws : IsValueSets d) (size : ℕ) (rs : List (Result 
   gathered_all (Err fault) h = fault_gathered d laws size rs fault h
 
   -- exact results give exactly the value, or no value and exactly the fault
-  pub gathered_all_only : (r : Result Value RunFault) → Exactly d r rs → GathersOnly d (joined_values d None rs) (faults_of d rs) r
+  pub gathered_all_only : (r : Result Value RunFault) → Exactly d r rs
+      → GathersOnly d (joined_values d None rs) (faults_of d rs) r
   gathered_all_only (Ok value) h =
       let v = value_gathered d laws size None rs value tt sizes h.0 in
       let e = exact_values d laws size None rs value tt sizes tt h.1 in
       (both (joined_values d None rs) v e.0, e.1)
     where
-      both : (set : Option d.Val) → IsSomeAnd set (λ a. d.covers a value) → IfSome set (λ a. OnlyCovers d a value) → IsSomeAnd set (λ a. OnlyCovers d a value)
+      both : (set : Option d.Val) → IsSomeAnd set (λ a. d.covers a value) → IfSome set (λ a. OnlyCovers d a value)
+          → IsSomeAnd set (λ a. OnlyCovers d a value)
       both None v e = elim v [ ]
       both (Some a) v e = e
   gathered_all_only (Err fault) h = (exact_faults d laws size None rs fault h.1, fault_gathered d laws size rs fault h.0, each_fault rs h.1)
     where
-      each_fault : (rs : List (Result d.Val RunFault)) → EachIs d (Err fault) rs → (other : RunFault) → Contains (faults_of d rs) other → other ≡ fault
+      each_fault : (rs : List (Result d.Val RunFault)) → EachIs d (Err fault) rs → (other : RunFault)
+          → Contains (faults_of d rs) other → other ≡ fault
       each_fault [] each other among = absurd (omega (arith, among.1))
       each_fault (Ok set ∷ rs) each other among = elim each.0 [ ]
       each_fault (Err told ∷ rs) each other (zero, low, at) = sym at ∙ each.0
       each_fault (Err told ∷ rs) each other (suc k, low, at) = each_fault rs each.1 other (k, omega arith, at)
 
 -- what is among the results of one of the cells is among those of all
-pub all_among : (d : ValueSets) (m : Mem d) (size : ℕ) (r : Result Value RunFault) (cells : List (ℕ × ℕ)) (cell : ℕ × ℕ) → Contains cells cell
+pub all_among : (d : ValueSets) (m : Mem d) (size : ℕ) (r : Result Value RunFault) (cells : List (ℕ × ℕ)) (cell : ℕ × ℕ)
+    → Contains cells cell
     → Among d r (load_results d (m.frames cell.0) cell.1 size) → Among d r (load_all d m cells size)
 all_among d m size r [] cell among h = absurd (contains_none cell among)
 all_among d m size r (first ∷ cells) cell among h = elim (contains_cases first cells cell among) [
@@ -168,7 +182,8 @@ all_among d m size r (first ∷ cells) cell among h = elim (contains_cases first
 ]
 
 -- the results of several cells are sized
-pub all_results_sized : (d : ValueSets) (laws : IsValueSets d) (m : Mem d) (size : ℕ) → IsCellSize size → MemSized d m → (cells : List (ℕ × ℕ))
+pub all_results_sized : (d : ValueSets) (laws : IsValueSets d) (m : Mem d) (size : ℕ) → IsCellSize size → MemSized d m
+    → (cells : List (ℕ × ℕ))
     → EachSized d size (load_all d m cells size)
 all_results_sized d laws m size is sized [] = tt
 all_results_sized d laws m size is sized (cell ∷ cells) =

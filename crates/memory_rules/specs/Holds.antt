@@ -10,6 +10,7 @@ use Rattle.memory_rules.specs.Flags.{FlagCovers}
 
 pub record FrameHolds (d : ValueSets) (bits : ℕ) (m : FrameMem d) (from : ℕ → Option Byte) : Type 0 where
   pub bytes : (byte : ℕ) → ByteCovers d (m.bytes byte) (from byte)
-  pub kept : (offset size : ℕ) (cell : Cell d.Val) → m.cells offset size ≡ Some cell → IsCellSize size → fits_in bits offset size ≡ true
+  pub kept : (offset size : ℕ) (cell : Cell d.Val) → m.cells offset size ≡ Some cell → IsCellSize size
+      → fits_in bits offset size ≡ true
       → FlagCovers d cell (cell_in from offset size)
   pub others : (offset size : ℕ) → m.cells offset size ≡ None → IsCellSize size → is_whole from offset size ≡ false

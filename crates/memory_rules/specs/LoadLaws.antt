@@ -10,7 +10,8 @@ use Rattle.memory_rules.specs.FlagLaws.{from_flags}
 use Rattle.memory_rules.specs.HoldLaws.{holds}
 use Rattle.memory_rules.specs.CellLaws.{stands_holds}
 
-pub load_covered : (d : ValueSets) (laws : IsValueSets d) (bits : ℕ) (m : FrameMem d) (from : ℕ → Option Byte) → FrameSized d m → IsTable from
+pub load_covered : (d : ValueSets) (laws : IsValueSets d) (bits : ℕ) (m : FrameMem d) (from : ℕ → Option Byte)
+    → FrameSized d m → IsTable from
     → FrameCovers d bits m from → (offset size : ℕ) → IsCellSize size → fits_in bits offset size ≡ true
     → Among d (cell_in from offset size) (load_results d m offset size)
 load_covered d laws bits m from sized table covers offset size is fits =

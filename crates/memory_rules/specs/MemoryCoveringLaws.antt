@@ -51,7 +51,8 @@ module _ (d : ValueSets) (laws : IsValueSets d) (rows : List FrameShape) where
     frames = λ frame row found runs. holds d laws row.bits (m.frames frame) (origin row.owner frame history) (c.frames frame row found runs);
   }
 
-  pub mem_covers : (m : Mem d) (history : List RunEvent) → MemSized d m → IsSound history → MemHolds d rows m history → MemCovers d rows m history
+  pub mem_covers : (m : Mem d) (history : List RunEvent) → MemSized d m → IsSound history → MemHolds d rows m history
+      → MemCovers d rows m history
   mem_covers m history sized sound h = record {
     active = h.active;
     frames =
@@ -73,7 +74,8 @@ module _ (d : ValueSets) (laws : IsValueSets d) (rows : List FrameShape) where
       (sym (funext (origin owner frame (Store frame offset size value ∷ history)) (put offset size value (origin owner frame history)) (λ byte. origin_stored owner frame offset size value history byte))) h
 
   -- one frame is changed so that it covers its table after the event, and the others cover theirs
-  one_frame : (m : Mem d) (changed : FrameMem d) (frame : ℕ) (row : FrameShape) (history after : List RunEvent) → slice_get rows frame ≡ Some row
+  one_frame : (m : Mem d) (changed : FrameMem d) (frame : ℕ) (row : FrameShape) (history after : List RunEvent)
+      → slice_get rows frame ≡ Some row
       → MemHolds d rows m history
       → ((owner : Option ℕ) → is_active owner after ≡ is_active owner history)
       → FrameHolds d row.bits changed (origin row.owner frame after)
@@ -122,7 +124,8 @@ module _ (d : ValueSets) (laws : IsValueSets d) (rows : List FrameShape) where
         (λ here. rw here (pinned_sized d laws (m.frames cell.0) cell.1 size set (sized cell.0) set_sized))
         (λ there. rw there (sized frame))
 
-    pub pinned_at_holds : (m : Mem d) (history : List RunEvent) (frame offset : ℕ) (value : Value) → (p : IsPlaced rows history frame offset size)
+    pub pinned_at_holds : (m : Mem d) (history : List RunEvent) (frame offset : ℕ) (value : Value)
+        → (p : IsPlaced rows history frame offset size)
         → cell_in (origin p.row.owner frame history) offset size ≡ Ok value → d.covers set value
         → MemHolds d rows m history → MemHolds d rows (pinned_at d m (frame, offset) size set) history
     pinned_at_holds m history frame offset value p gives in_set h =
@@ -131,7 +134,8 @@ module _ (d : ValueSets) (laws : IsValueSets d) (rows : List FrameShape) where
         (λ other own differ held. held)
 
     -- a possible cell in which nothing is stored
-    weak_at_holds : (m : Mem d) (history : List RunEvent) (frame offset : ℕ) → MemSized d m → IsPlaced rows history frame offset size
+    weak_at_holds : (m : Mem d) (history : List RunEvent) (frame offset : ℕ) → MemSized d m
+        → IsPlaced rows history frame offset size
         → MemHolds d rows m history → MemHolds d rows (weak_at d m (frame, offset) size set) history
     weak_at_holds m history frame offset sized p h =
         one_frame m (weak d (m.frames frame) offset size set) frame p.row history history p.found h (λ owner. refl)
@@ -147,7 +151,8 @@ module _ (d : ValueSets) (laws : IsValueSets d) (rows : List FrameShape) where
         (weak_at_holds m history cell.0 cell.1 sized (placed cell (contains_first cell cells)) h)
 
     module _ (value : Value) (in_set : d.covers set value) (fits : FitsValue size value) where
-      strong_at_stores : (m : Mem d) (history : List RunEvent) (frame offset : ℕ) → IsPlaced rows history frame offset size → MemHolds d rows m history
+      strong_at_stores : (m : Mem d) (history : List RunEvent) (frame offset : ℕ)
+          → IsPlaced rows history frame offset size → MemHolds d rows m history
           → MemHolds d rows (strong_at d m (frame, offset) size set) (Store frame offset size value ∷ history)
       strong_at_stores m history frame offset p h =
           one_frame m (strong d (m.frames frame) offset size set) frame p.row history (Store frame offset size value ∷ history) p.found h (λ owner. active_stored owner frame offset size value history)
@@ -155,7 +160,8 @@ module _ (d : ValueSets) (laws : IsValueSets d) (rows : List FrameShape) where
           (strong_holds d laws p.row.bits (m.frames frame) (origin p.row.owner frame history) (h.frames frame p.row p.found p.runs) offset size set is set_sized value in_set fits))
           (λ other own differ held. elsewhere own.bits (m.frames other) own.owner other frame offset size value history (λ e. differ (sym e)) held)
 
-      weak_at_stores : (m : Mem d) (history : List RunEvent) (frame offset : ℕ) → MemSized d m → IsPlaced rows history frame offset size
+      weak_at_stores : (m : Mem d) (history : List RunEvent) (frame offset : ℕ) → MemSized d m
+          → IsPlaced rows history frame offset size
           → MemHolds d rows m history → MemHolds d rows (weak_at d m (frame, offset) size set) (Store frame offset size value ∷ history)
       weak_at_stores m history frame offset sized p h =
           one_frame m (weak d (m.frames frame) offset size set) frame p.row history (Store frame offset size value ∷ history) p.found h (λ owner. active_stored owner frame offset size value history)
@@ -210,14 +216,16 @@ module _ (d : ValueSets) (laws : IsValueSets d) (rows : List FrameShape) where
   mem_fresh_sized frame = empty_sized d laws
 
   -- two memories: what covers on one side covers after the join, where the same functions run
-  pub both_left : (a b : Mem d) (history : List RunEvent) → MemSized d a → MemSized d b → MemHolds d rows a history → MemHolds d rows (both d a b) history
+  pub both_left : (a b : Mem d) (history : List RunEvent) → MemSized d a → MemSized d b → MemHolds d rows a history
+      → MemHolds d rows (both d a b) history
   both_left a b history s t h = record {
     active = h.active;
     frames =
         λ frame row found runs. joined_holds_left d laws row.bits (a.frames frame) (b.frames frame) (origin row.owner frame history) (s frame) (t frame) (h.frames frame row found runs);
   }
 
-  pub both_right : (a b : Mem d) (history : List RunEvent) → MemSized d a → MemSized d b → ((function : ℕ) → a.runs function ≡ b.runs function)
+  pub both_right : (a b : Mem d) (history : List RunEvent) → MemSized d a → MemSized d b
+      → ((function : ℕ) → a.runs function ≡ b.runs function)
       → MemHolds d rows b history → MemHolds d rows (both d a b) history
   both_right a b history s t same h = record {
     active = λ owner. h.active owner ∙ is_same owner;
@@ -268,14 +276,16 @@ module _ (d : ValueSets) (laws : IsValueSets d) (rows : List FrameShape) where
         (h.frames frame row found (was row.owner not_mine runs))));
   }
     where
-      active : (owner : Option ℕ) → is_active owner (Enter function ∷ history) ≡ is_on (entered d rows m function).runs owner
+      active : (owner : Option ℕ)
+          → is_active owner (Enter function ∷ history) ≡ is_on (entered d rows m function).runs owner
       active None = refl
       active (Some g) = elim (cases_eq g function) [
         | inl same ↦ rw (eq-eqb function g (sym same), eq-eqb g function same) refl
         | inr differ ↦ rw (ne_eqb function g (λ e. differ (sym e)), ne_eqb g function differ) (h.active (Some g))
       ]
 
-      was : (owner : Option ℕ) → is_owner owner function ≡ false → is_active owner (Enter function ∷ history) ≡ true → is_active owner history ≡ true
+      was : (owner : Option ℕ) → is_owner owner function ≡ false → is_active owner (Enter function ∷ history) ≡ true
+          → is_active owner history ≡ true
       was None other runs = refl
       was (Some g) other runs = elim (cases_eq g function) [
         | inl same ↦ absurd (false≢true (sym other ∙ eq-eqb g function same))

@@ -1,4 +1,5 @@
--- What an abstract memory over any sets of values promises. The memory's values are of their sizes, and the history is sound.
+-- What an abstract memory over any sets of values promises. The memory's values are of their sizes, and the history is
+-- sound.
 --   StoreCovers      after a store to one of several possible cells the memory covers the history with the store
 --   LoadCovers       a load of a cell of an active frame is among the results of the cell
 --   LoadGathers      what is among the results of a cell is in the joined value or the faults; exact results give it alone

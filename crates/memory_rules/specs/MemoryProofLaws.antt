@@ -48,10 +48,12 @@ module _ (d : ValueSets) (laws : IsValueSets d) where
   exact_load bits m from offset size sized sharp is fits = load_exact d laws bits m from sized sharp offset size is fits
 
   -- a sharp memory covers
-  sharp_covers : (rows : List FrameShape) (m : Mem d) (history : List RunEvent) → MemSharp d rows m history → MemCovers d rows m history
+  sharp_covers : (rows : List FrameShape) (m : Mem d) (history : List RunEvent) → MemSharp d rows m history
+      → MemCovers d rows m history
   sharp_covers rows m history h = record { active = h.active; frames = λ frame row found runs. (h.frames frame row found runs).covers }
 
-  only_cell : (rows : List FrameShape) (history : List RunEvent) (frame offset size : ℕ) → IsPlaced rows history frame offset size → (cell : ℕ × ℕ)
+  only_cell : (rows : List FrameShape) (history : List RunEvent) (frame offset size : ℕ)
+      → IsPlaced rows history frame offset size → (cell : ℕ × ℕ)
       → Contains ((frame, offset) ∷ []) cell → IsPlaced rows history cell.0 cell.1 size
   only_cell rows history frame offset size p cell among = elim (contains_cases (frame, offset) [] cell among) [
     | inl same ↦ subst (λ (c : ℕ × ℕ). IsPlaced rows history c.0 c.1 size) (sym same) p

@@ -51,11 +51,13 @@ hull_self p is =
     ∙ (ap (from_to p.lo p.hi) step ∙ from_to_self p is))
 
 -- the hulls of a progression and itself moved up are wider
-first_wider : (w : ℕ) (p : Progression) → IsProgression p → int_lt ((hull (moved (full w) p) p).hi -ℤ (hull (moved (full w) p) p).lo) (p.hi -ℤ p.lo) ≡ false
+first_wider : (w : ℕ) (p : Progression) → IsProgression p
+    → int_lt ((hull (moved (full w) p) p).hi -ℤ (hull (moved (full w) p) p).lo) (p.hi -ℤ p.lo) ≡ false
 unfolding hull
 first_wider w p is = let positive = pow_pos w in let order = is.order in sym (omega (arith, ints, clamps, positive, order))
 
-second_wider : (w : ℕ) (p : Progression) → IsProgression p → int_lt ((hull p (moved (full w) p)).hi -ℤ (hull p (moved (full w) p)).lo) (p.hi -ℤ p.lo) ≡ false
+second_wider : (w : ℕ) (p : Progression) → IsProgression p
+    → int_lt ((hull p (moved (full w) p)).hi -ℤ (hull p (moved (full w) p)).lo) (p.hi -ℤ p.lo) ≡ false
 unfolding hull
 second_wider w p is = let positive = pow_pos w in let order = is.order in sym (omega (arith, ints, clamps, positive, order))
 

@@ -14,7 +14,8 @@ words_self None are = refl
 words_self (Some words) are = ap (λ x. Some x) (stride_self words are)
 
 -- a place stands above those before it
-above : (least : ℕ) (places others : List (ℕ × Stride)) (place : ℕ × Stride) → Ascends least (places ++ place ∷ others) → least < place.0
+above : (least : ℕ) (places others : List (ℕ × Stride)) (place : ℕ × Stride) → Ascends least (places ++ place ∷ others)
+    → least < place.0
 above least [] others place ascends = ascends.0
 above least (first ∷ places) others place ascends =
     let low = above first.0 places others place ascends.1 in
@@ -22,7 +23,8 @@ above least (first ∷ places) others place ascends =
     omega (arith, low, least_low)
 
 -- a place of a value, put once more
-stands_there : (places others : List (ℕ × Stride)) (place : ℕ × Stride) → IsPlace place → AreAscending (places ++ place ∷ others)
+stands_there : (places others : List (ℕ × Stride)) (place : ℕ × Stride) → IsPlace place
+    → AreAscending (places ++ place ∷ others)
     → with_place (places ++ place ∷ others) place ≡ places ++ place ∷ others
 stands_there [] others place is ascends =
     let here = eq-eqb place.0 place.0 refl in
@@ -33,11 +35,13 @@ stands_there (first ∷ places) others place is ascends =
     let higher : nat_lt place.0 first.0 ≡ false = le-ltb place.0 first.0 (omega (arith, low)) in
     rw (apart, higher) (ap (λ rest. first ∷ rest) (stands_there places others place is (rest_ascends first.0 (places ++ place ∷ others) ascends)))
 
-regrouped : (done others : List (ℕ × Stride)) (place : ℕ × Stride) → (done ++ place ∷ []) ++ others ≡ done ++ place ∷ others
+regrouped : (done others : List (ℕ × Stride)) (place : ℕ × Stride)
+    → (done ++ place ∷ []) ++ others ≡ done ++ place ∷ others
 regrouped [] others place = refl
 regrouped (first ∷ done) others place = ap (λ rest. first ∷ rest) (regrouped done others place)
 
-all_stand : (done others : List (ℕ × Stride)) → ArePlaces others → AreAscending (done ++ others) → with_places (done ++ others) others ≡ done ++ others
+all_stand : (done others : List (ℕ × Stride)) → ArePlaces others → AreAscending (done ++ others)
+    → with_places (done ++ others) others ≡ done ++ others
 all_stand done [] are ascends = refl
 all_stand done (place ∷ others) are ascends =
     ap (λ places. with_places places others) (stands_there done others place are.0 ascends)
@@ -45,7 +49,8 @@ all_stand done (place ∷ others) are ascends =
     (all_stand (done ++ place ∷ []) others are.1 (subst AreAscending (sym (regrouped done others place)) ascends))
 
 -- the places of a value, joined with themselves
-pub places_self : (places : List (ℕ × Stride)) → ArePlaces places → AreAscending places → with_places places places ≡ places
+pub places_self : (places : List (ℕ × Stride)) → ArePlaces places → AreAscending places
+    → with_places places places ≡ places
 places_self places are ascends = all_stand [] places are ascends
 
 -- an abstract value

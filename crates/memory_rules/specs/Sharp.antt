@@ -37,5 +37,6 @@ module _ (d : ValueSets) where
   pub record FrameSharp (bits : ℕ) (m : FrameMem d) (from : ℕ → Option Byte) : Type 0 where
     pub covers : FrameCovers d bits m from
     pub bytes : (byte : ℕ) → ExactlyOne (m.bytes byte)
-    pub kept : (offset size : ℕ) (cell : Cell d.Val) → m.cells offset size ≡ Some cell → IsCellSize size → fits_in bits offset size ≡ true
+    pub kept : (offset size : ℕ) (cell : Cell d.Val) → m.cells offset size ≡ Some cell → IsCellSize size
+        → fits_in bits offset size ≡ true
         → Exactly (cell_in from offset size) (results d (taken d m offset size) cell)

@@ -25,7 +25,8 @@ use Rattle.memory_rules.specs.CellLaws.{same_is, apart}
 use Rattle.memory_rules.specs.SharpFrames.{SharpValue, SharpByte}
 
 -- a byte without a value: not all have one
-missing : {W : Type 0} (bytes : ℕ → AbstractByte W) (offset count byte : ℕ) → offset ≤ byte → byte < offset + count → (bytes byte).value ≡ None
+missing : {W : Type 0} (bytes : ℕ → AbstractByte W) (offset count byte : ℕ) → offset ≤ byte → byte < offset + count
+    → (bytes byte).value ≡ None
     → values_in (map bytes (offsets offset count)) ≡ None
 missing bytes offset zero byte low high none = absurd (omega arith)
 missing {W} bytes offset (suc count) byte low high none = elim (cases_eq byte offset) [
@@ -38,7 +39,8 @@ missing {W} bytes offset (suc count) byte low high none = elim (cases_eq byte of
     further (Some word) = refl
 
 module _ (d : ValueSets) (laws : IsValueSets d) where
-  sharp_byte : (byte : AbstractByte d.Word) (stored : Option Byte) → ByteCovers d byte stored → ExactlyOne d byte → SharpByte d byte stored
+  sharp_byte : (byte : AbstractByte d.Word) (stored : Option Byte) → ByteCovers d byte stored → ExactlyOne d byte
+      → SharpByte d byte stored
   sharp_byte byte None covers (inl one) = one
   sharp_byte byte None covers (inr (inl one)) = absurd (false≢true (sym one.0 ∙ covers))
   sharp_byte byte None covers (inr (inr one)) = absurd (false≢true (sym one.0 ∙ covers))
@@ -47,7 +49,8 @@ module _ (d : ValueSets) (laws : IsValueSets d) where
       no_value : (P : d.Word → Type 0) → byte.value ≡ None → IsSomeAnd byte.value P → ⊥
       no_value P none h = rw none at h
 
-      go : (value : Value) (place : ℕ) → HoldsByte d byte value place → ExactlyOne d byte → SharpValue d byte value place
+      go : (value : Value) (place : ℕ) → HoldsByte d byte value place → ExactlyOne d byte
+          → SharpValue d byte value place
       go (Int size bits) place h (inl one) = absurd (no_value _ one.2 h)
       go (Int size bits) place h (inr (inl one)) = absurd (no_value _ one.2 h)
       go (Int size bits) place h (inr (inr (u, p, (word, k, is, only)))) =
@@ -65,7 +68,8 @@ module _ (d : ValueSets) (laws : IsValueSets d) where
     empty_at : (byte : ℕ) → is_empty (from byte) ≡ true → is_stored (m.bytes byte) ≡ false
     empty_at byte none = go (from byte) (at_byte byte) none
       where
-        go : (stored : Option Byte) → SharpByte d (m.bytes byte) stored → is_empty stored ≡ true → is_stored (m.bytes byte) ≡ false
+        go : (stored : Option Byte) → SharpByte d (m.bytes byte) stored → is_empty stored ≡ true
+            → is_stored (m.bytes byte) ≡ false
         go None one none = rw (one.2, one.1) refl
         go (Some stored) one none = absurd (false≢true none)
 
@@ -76,18 +80,21 @@ module _ (d : ValueSets) (laws : IsValueSets d) where
         at (Int size bits) place one = one.0
         at (Ptr frame offset) place one = one.0
 
-        go : (stored : Option Byte) → SharpByte d (m.bytes byte) stored → is_empty stored ≡ false → (m.bytes byte).u ≡ false
+        go : (stored : Option Byte) → SharpByte d (m.bytes byte) stored → is_empty stored ≡ false
+            → (m.bytes byte).u ≡ false
         go None one some = absurd (false≢true (sym some))
         go (Some stored) one some = at stored.value stored.place one
 
     pointer_at : (byte : ℕ) → of_pointer (from byte) ≡ true → (m.bytes byte).value ≡ None
     pointer_at byte pointer = go (from byte) (at_byte byte) pointer
       where
-        at : (value : Value) (place : ℕ) → SharpValue d (m.bytes byte) value place → is_pointer value ≡ true → (m.bytes byte).value ≡ None
+        at : (value : Value) (place : ℕ) → SharpValue d (m.bytes byte) value place → is_pointer value ≡ true
+            → (m.bytes byte).value ≡ None
         at (Int size bits) place one pointer = absurd (false≢true pointer)
         at (Ptr frame offset) place one pointer = one.2
 
-        go : (stored : Option Byte) → SharpByte d (m.bytes byte) stored → of_pointer stored ≡ true → (m.bytes byte).value ≡ None
+        go : (stored : Option Byte) → SharpByte d (m.bytes byte) stored → of_pointer stored ≡ true
+            → (m.bytes byte).value ≡ None
         go None one pointer = absurd (false≢true pointer)
         go (Some stored) one pointer = at stored.value stored.place one pointer
 
@@ -100,7 +107,8 @@ module _ (d : ValueSets) (laws : IsValueSets d) where
         at (Int size bits) place one words = (one.1, one.2)
         at (Ptr frame offset) place one words = absurd (false≢true (sym words))
 
-        go : (stored : Option Byte) → SharpByte d (m.bytes byte) stored → is_empty stored ≡ false → of_pointer stored ≡ false
+        go : (stored : Option Byte) → SharpByte d (m.bytes byte) stored → is_empty stored ≡ false
+            → of_pointer stored ≡ false
             → ((m.bytes byte).p ≡ false) × IsSomeAnd (m.bytes byte).value (λ word. OnlyHas d word 8 (bits_at stored))
         go None one some words = absurd (false≢true (sym some))
         go (Some stored) one some words = at stored.value stored.place one words
@@ -113,7 +121,8 @@ module _ (d : ValueSets) (laws : IsValueSets d) where
         covered : (byte : ℕ) → ByteCovers d (m.bytes byte) (from byte)
         covered = sharp.covers.bytes
 
-        no_u : list_any is_empty (map from (bytes_of offset size)) ≡ false → list_any (λ (byte : AbstractByte d.Word). byte.u) (taken d m offset size) ≡ false
+        no_u : list_any is_empty (map from (bytes_of offset size)) ≡ false
+            → list_any (λ (byte : AbstractByte d.Word). byte.u) (taken d m offset size) ≡ false
         no_u some =
             none_passes (λ (byte : AbstractByte d.Word). byte.u) m.bytes offset (size / 8) (λ byte low high. stored_at byte (each_fails is_empty from offset (size / 8) some byte low high))
 
@@ -140,7 +149,8 @@ module _ (d : ValueSets) (laws : IsValueSets d) where
             let only : OnlyCovers d (d.of_word w.0) (Int size (word_of (map from (bytes_of offset size)))) = only_of w.0 size (word_of (map from (bytes_of offset size))) w.2.1 in
             rw (r, no_u some, all_stored d laws m.bytes from covered offset (size / 8) some, w.1, no_p) (inl only.0, (only, tt))
           where
-            only_of : (word : d.Word) (size bits : ℕ) → OnlyHas d word size bits → OnlyCovers d (d.of_word word) (Int size bits)
+            only_of : (word : d.Word) (size bits : ℕ) → OnlyHas d word size bits
+                → OnlyCovers d (d.of_word word) (Int size bits)
             only_of word size bits h = (
               laws.word_covers word size bits h.0,
               λ other covers.
@@ -160,7 +170,8 @@ module _ (d : ValueSets) (laws : IsValueSets d) where
         go (Some cell) at = sharp.kept offset size cell at is fits
 
   -- the byte that a sharp store leaves
-  new_byte_sharp : (set : d.Val) (value : Value) (size place : ℕ) → d.val_sized set size → OnlyCovers d set value → FitsValue size value
+  new_byte_sharp : (set : d.Val) (value : Value) (size place : ℕ) → d.val_sized set size → OnlyCovers d set value
+      → FitsValue size value
       → 8 * place + 8 ≤ size → ExactlyOne d (new_byte d set place)
   new_byte_sharp set (Int own k) size place s only fits room =
       let w = laws.only_word set size own k s only in
@@ -236,7 +247,8 @@ module _ (d : ValueSets) (laws : IsValueSets d) where
         (λ differ. sharp.kept place width cell (rw differ at kept) width_is room);
   }
 
-  pub empty_sharp : (bits : ℕ) → FrameCovers d bits (empty d) (λ byte. None) → FrameSharp d bits (empty d) (λ byte. None)
+  pub empty_sharp : (bits : ℕ) → FrameCovers d bits (empty d) (λ byte. None)
+      → FrameSharp d bits (empty d) (λ byte. None)
   empty_sharp bits covers = record {
     covers = covers;
     bytes = λ byte. inl (refl, refl, refl);

@@ -20,13 +20,15 @@ use Rattle.memory_rules.specs.MemoryCoveringLaws.{funext, active_stored}
 use Rattle.memory_rules.specs.SharpFrameLaws.{strong_sharp, pinned_sharp, empty_sharp}
 
 -- a frame whose table is the same
-same_table : (d : ValueSets) (bits : ℕ) (m : FrameMem d) (f g : ℕ → Option Byte) → ((byte : ℕ) → g byte ≡ f byte) → FrameSharp d bits m f
+same_table : (d : ValueSets) (bits : ℕ) (m : FrameMem d) (f g : ℕ → Option Byte) → ((byte : ℕ) → g byte ≡ f byte)
+    → FrameSharp d bits m f
     → FrameSharp d bits m g
 same_table d bits m f g same h = subst (λ (from : ℕ → Option Byte). FrameSharp d bits m from) (sym (funext g f same)) h
 
 module _ (d : ValueSets) (laws : IsValueSets d) (rows : List FrameShape) where
   -- a store of one value to the one possible cell
-  pub stored_sharp : (m : Mem d) (history : List RunEvent) (frame offset size : ℕ) (set : d.Val) (value : Value) → MemSharp d rows m history
+  pub stored_sharp : (m : Mem d) (history : List RunEvent) (frame offset size : ℕ) (set : d.Val) (value : Value)
+      → MemSharp d rows m history
       → MemCovers d rows (strong_at d m (frame, offset) size set) (Store frame offset size value ∷ history)
       → IsCellSize size → d.val_sized set size → OnlyCovers d set value → FitsValue size value → IsPlaced rows history frame offset size
       → MemSharp d rows (strong_at d m (frame, offset) size set) (Store frame offset size value ∷ history)
@@ -41,7 +43,8 @@ module _ (d : ValueSets) (laws : IsValueSets d) (rows : List FrameShape) where
     ];
   }
     where
-      here : (other : ℕ) (row : FrameShape) → other ≡ frame → FrameSharp d row.bits (m.frames other) (origin row.owner other history)
+      here : (other : ℕ) (row : FrameShape) → other ≡ frame
+          → FrameSharp d row.bits (m.frames other) (origin row.owner other history)
           → FrameCovers d row.bits ((strong_at d m (frame, offset) size set).frames other) (origin row.owner other (Store frame offset size value ∷ history))
           → FrameSharp d row.bits ((strong_at d m (frame, offset) size set).frames other) (origin row.owner other (Store frame offset size value ∷ history))
       here other row same h c =
@@ -65,7 +68,8 @@ module _ (d : ValueSets) (laws : IsValueSets d) (rows : List FrameShape) where
   }
 
   -- a cell that holds the value is pinned to it alone
-  pub pinned_at_sharp : (m : Mem d) (history : List RunEvent) (frame offset size : ℕ) (set : d.Val) (value : Value) → MemSharp d rows m history
+  pub pinned_at_sharp : (m : Mem d) (history : List RunEvent) (frame offset size : ℕ) (set : d.Val) (value : Value)
+      → MemSharp d rows m history
       → MemCovers d rows (pinned_at d m (frame, offset) size set) history → (p : IsPlaced rows history frame offset size)
       → cell_in (origin p.row.owner frame history) offset size ≡ Ok value → OnlyCovers d set value
       → MemSharp d rows (pinned_at d m (frame, offset) size set) history
@@ -77,7 +81,8 @@ module _ (d : ValueSets) (laws : IsValueSets d) (rows : List FrameShape) where
     ];
   }
     where
-      here : (other : ℕ) (row : FrameShape) → other ≡ frame → slice_get rows other ≡ Some row → is_active row.owner history ≡ true
+      here : (other : ℕ) (row : FrameShape) → other ≡ frame → slice_get rows other ≡ Some row
+          → is_active row.owner history ≡ true
           → FrameSharp d row.bits ((pinned_at d m (frame, offset) size set).frames other) (origin row.owner other history)
       here other row same found runs =
           let at : slice_get rows frame ≡ Some row = subst (λ (f : ℕ). slice_get rows f ≡ Some row) same found in

@@ -27,7 +27,8 @@ use Rattle.memory_rules.specs.CellLaws.{same_is, apart, broken, stands_holds}
 use Rattle.memory_rules.specs.AboveLaws.{new_byte_holds, weak_old, weak_new, weak_cell_old, weak_cell_new, join_bytes_left, join_bytes_right, join_cells_left, join_cells_right, cell_above, either_alike}
 
 -- a cell that lies apart from a store is whole where it was
-pub whole_apart : (from : ℕ → Option Byte) (offset size : ℕ) (value : Value) (place width : ℕ) → (place + width / 8 ≤ offset) ⊎ (offset + size / 8 ≤ place)
+pub whole_apart : (from : ℕ → Option Byte) (offset size : ℕ) (value : Value) (place width : ℕ)
+    → (place + width / 8 ≤ offset) ⊎ (offset + size / 8 ≤ place)
     → is_whole (put offset size value from) place width ≡ is_whole from place width
 whole_apart from offset size value place width apart =
     ap (λ (bytes : List (Option Byte)). list_all (is_from place width) bytes)
@@ -35,7 +36,8 @@ whole_apart from offset size value place width apart =
     (λ byte low high. put_elsewhere from offset size value byte (elim apart [ inl below ↦ below_cell offset size byte (omega arith) | inr above ↦ above_cell offset size byte (omega arith) ])))
 
 module _ (d : ValueSets) (laws : IsValueSets d) where
-  pub stands_sized : (m : FrameMem d) → FrameSized d m → (offset size : ℕ) → IfSome (stands d m offset size).value (λ set. d.val_sized set size)
+  pub stands_sized : (m : FrameMem d) → FrameSized d m → (offset size : ℕ)
+      → IfSome (stands d m offset size).value (λ set. d.val_sized set size)
   stands_sized m sized offset size = go (m.cells offset size) refl
     where
       go : (kept : Option (Cell d.Val)) → m.cells offset size ≡ kept
@@ -43,15 +45,18 @@ module _ (d : ValueSets) (laws : IsValueSets d) where
       go None at = tt
       go (Some cell) at = sized.kept offset size cell at
 
-  new_byte_sized : (set : d.Val) (size place : ℕ) → 8 * place + 8 ≤ size → d.val_sized set size → IfSome (new_byte d set place).value (λ word. d.sized word 8)
+  new_byte_sized : (set : d.Val) (size place : ℕ) → 8 * place + 8 ≤ size → d.val_sized set size
+      → IfSome (new_byte d set place).value (λ word. d.sized word 8)
   new_byte_sized set size place room s = go (d.word_part set) (λ word is. laws.word_part_sized set size word s is)
     where
-      go : (part : Option d.Word) → ((word : d.Word) → part ≡ Some word → d.sized word size) → IfSome (byte_part d place part) (λ word. d.sized word 8)
+      go : (part : Option d.Word) → ((word : d.Word) → part ≡ Some word → d.sized word size)
+          → IfSome (byte_part d place part) (λ word. d.sized word 8)
       go None each = tt
       go (Some word) each = laws.byte_sized word size place room (each word refl)
 
 -- a byte of a cell has room in it
-pub byte_room : (offset size byte : ℕ) → IsCellSize size → is_byte_of offset size byte ≡ true → 8 * (byte - offset) + 8 ≤ size
+pub byte_room : (offset size byte : ℕ) → IsCellSize size → is_byte_of offset size byte ≡ true
+    → 8 * (byte - offset) + 8 ≤ size
 byte_room offset size byte is inside =
     let ends = cell_ends offset size byte inside in
     omega (arith, is.0, is.1, ends.0, ends.1)
@@ -59,7 +64,8 @@ byte_room offset size byte is inside =
 module _ (d : ValueSets) (laws : IsValueSets d) (bits : ℕ) (m : FrameMem d) (from : ℕ → Option Byte) (h : FrameHolds d bits m from) where
   module _ (offset size : ℕ) (set : d.Val) (is : IsCellSize size) (set_sized : d.val_sized set size) where
     module _ (value : Value) (covers : d.covers set value) (fits : FitsValue size value) where
-      in_room : (byte : ℕ) → is_byte_of offset size byte ≡ true → HoldsByte d (new_byte d set (byte - offset)) value (byte - offset)
+      in_room : (byte : ℕ) → is_byte_of offset size byte ≡ true
+          → HoldsByte d (new_byte d set (byte - offset)) value (byte - offset)
       in_room byte inside =
           let ends = cell_ends offset size byte inside in
           let room : 8 * (byte - offset) + 8 ≤ size = omega (arith, ends.0, ends.1) in
@@ -91,7 +97,8 @@ module _ (d : ValueSets) (laws : IsValueSets d) (bits : ℕ) (m : FrameMem d) (f
       }
 
       -- a byte that the store leaves empty was empty, so a load that is uninit was uninit
-      was_uninit : (place width : ℕ) → list_any is_empty (map (put offset size value from) (bytes_of place width)) ≡ true
+      was_uninit : (place width : ℕ)
+          → list_any is_empty (map (put offset size value from) (bytes_of place width)) ≡ true
           → cell_in from place width ≡ Err Uninit
       was_uninit place width none =
           let found = one_passes is_empty (put offset size value from) place (width / 8) none in
@@ -117,7 +124,8 @@ module _ (d : ValueSets) (laws : IsValueSets d) (bits : ℕ) (m : FrameMem d) (f
           go (reads_word some many no_pointer r) = rw r (inr (refl, refl))
 
       -- one of several possible cells, and the one that is stored
-      pub weak_stores : FrameSized d m → fits_in bits offset size ≡ true → FrameHolds d bits (weak d m offset size set) (put offset size value from)
+      pub weak_stores : FrameSized d m → fits_in bits offset size ≡ true
+          → FrameHolds d bits (weak d m offset size set) (put offset size value from)
       weak_stores sized in_frame = record {
         bytes = λ byte. by_test (is_byte_of offset size byte)
             (λ inside. rw inside (weak_new d laws (m.bytes byte) (new_byte d set (byte - offset)) (sized.bytes byte) (new_byte_sized d laws set size (byte - offset) (byte_room offset size byte is inside) set_sized) (left_by offset size value byte) (in_room byte inside)))
@@ -143,7 +151,8 @@ module _ (d : ValueSets) (laws : IsValueSets d) (bits : ℕ) (m : FrameMem d) (f
             whole_apart from offset size value place width (apart offset size place width alone) ∙ h.others place width same width_is));
       }
         where
-          marked : (place width : ℕ) (cell : Cell d.Val) (kept : Option (Cell d.Val)) → m.cells place width ≡ kept → with_x d kept ≡ Some cell
+          marked : (place width : ℕ) (cell : Cell d.Val) (kept : Option (Cell d.Val)) → m.cells place width ≡ kept
+              → with_x d kept ≡ Some cell
               → IsCellSize width → fits_in bits place width ≡ true → is_same offset size place width ≡ false → share_byte offset size place width ≡ true
               → FlagCovers d cell (cell_in (put offset size value from) place width)
           marked place width cell None at e width_is room differ share = cc
@@ -153,7 +162,8 @@ module _ (d : ValueSets) (laws : IsValueSets d) (bits : ℕ) (m : FrameMem d) (f
               (shared_holds place width old width_is differ share (h.kept place width old at width_is room))
 
     -- one of several possible cells, where another is stored
-    pub weak_holds : FrameSized d m → fits_in bits offset size ≡ true → FrameHolds d bits (weak d m offset size set) from
+    pub weak_holds : FrameSized d m → fits_in bits offset size ≡ true
+        → FrameHolds d bits (weak d m offset size set) from
     weak_holds sized in_frame = record {
       bytes = λ byte. by_test (is_byte_of offset size byte)
           (λ inside. rw inside (weak_old d laws (m.bytes byte) (new_byte d set (byte - offset)) (sized.bytes byte) (new_byte_sized d laws set size (byte - offset) (byte_room offset size byte is inside) set_sized) (from byte) (h.bytes byte)))
@@ -179,7 +189,8 @@ module _ (d : ValueSets) (laws : IsValueSets d) (bits : ℕ) (m : FrameMem d) (f
         unmarked None e = refl
         unmarked (Some cell) e = cc
 
-        marked : (place width : ℕ) (cell : Cell d.Val) (kept : Option (Cell d.Val)) → m.cells place width ≡ kept → with_x d kept ≡ Some cell
+        marked : (place width : ℕ) (cell : Cell d.Val) (kept : Option (Cell d.Val)) → m.cells place width ≡ kept
+            → with_x d kept ≡ Some cell
             → IsCellSize width → fits_in bits place width ≡ true → FlagCovers d cell (cell_in from place width)
         marked place width cell None at e width_is room = cc
         marked place width cell (Some old) at e width_is room =
@@ -188,7 +199,8 @@ module _ (d : ValueSets) (laws : IsValueSets d) (bits : ℕ) (m : FrameMem d) (f
             (cell_above d laws old (record { value = old.value; u = old.u; x = true }) (λ value v. v) (λ u. u) (λ x. refl) (cell_in from place width) (h.kept place width old at width_is room))
 
     -- a cell is pinned to a value that covers what it holds
-    pub pinned_holds : (value : Value) → cell_in from offset size ≡ Ok value → d.covers set value → FrameHolds d bits (pinned d m offset size set) from
+    pub pinned_holds : (value : Value) → cell_in from offset size ≡ Ok value → d.covers set value
+        → FrameHolds d bits (pinned d m offset size set) from
     pinned_holds value gives covers = record {
       bytes = h.bytes;
       kept = λ place width cell kept width_is room. by_test (is_same offset size place width)
@@ -211,7 +223,8 @@ module _ (d : ValueSets) (laws : IsValueSets d) (bits : ℕ) (a b : FrameMem d) 
       (λ some. let e : Some (join_cells d (stands d a offset size) (stands d b offset size)) ≡ Some cell = rw some at kept in cc)
       (λ none. let e : None ≡ Some cell = rw none at kept in cc)
 
-  join_none : (offset size : ℕ) → (joined d a b).cells offset size ≡ None → (a.cells offset size ≡ None) × (b.cells offset size ≡ None)
+  join_none : (offset size : ℕ) → (joined d a b).cells offset size ≡ None
+      → (a.cells offset size ≡ None) × (b.cells offset size ≡ None)
   join_none offset size none = by_test (is_some (a.cells offset size) || is_some (b.cells offset size))
       (λ some. let e : Some (join_cells d (stands d a offset size) (stands d b offset size)) ≡ None = rw some at none in cc)
       (λ neither. let parts = or_parts _ _ neither in (not_some (a.cells offset size) parts.0, not_some (b.cells offset size) parts.1))
@@ -220,7 +233,8 @@ module _ (d : ValueSets) (laws : IsValueSets d) (bits : ℕ) (a b : FrameMem d) 
       not_some None e = refl
       not_some (Some cell) e = cc
 
-  pub joined_holds_left : FrameSized d a → FrameSized d b → FrameHolds d bits a from → FrameHolds d bits (joined d a b) from
+  pub joined_holds_left : FrameSized d a → FrameSized d b → FrameHolds d bits a from
+      → FrameHolds d bits (joined d a b) from
   joined_holds_left s t h = record {
     bytes = λ byte. join_bytes_left d laws (a.bytes byte) (b.bytes byte) (s.bytes byte) (t.bytes byte) (from byte) (h.bytes byte);
     kept = λ offset size cell kept is room. subst (λ (k : Cell d.Val). FlagCovers d k (cell_in from offset size)) (join_kept offset size cell kept)
@@ -228,7 +242,8 @@ module _ (d : ValueSets) (laws : IsValueSets d) (bits : ℕ) (a b : FrameMem d) 
     others = λ offset size none is. h.others offset size (join_none offset size none).0 is;
   }
 
-  pub joined_holds_right : FrameSized d a → FrameSized d b → FrameHolds d bits b from → FrameHolds d bits (joined d a b) from
+  pub joined_holds_right : FrameSized d a → FrameSized d b → FrameHolds d bits b from
+      → FrameHolds d bits (joined d a b) from
   joined_holds_right s t h = record {
     bytes = λ byte. join_bytes_right d laws (a.bytes byte) (b.bytes byte) (s.bytes byte) (t.bytes byte) (from byte) (h.bytes byte);
     kept = λ offset size cell kept is room. subst (λ (k : Cell d.Val). FlagCovers d k (cell_in from offset size)) (join_kept offset size cell kept)
@@ -244,13 +259,15 @@ empty_holds d bits = record {
   others = λ offset size none is. first offset (size / 8) size is.0;
 }
   where
-    first : (offset count size : ℕ) → 0 < count → list_all (is_from offset size) (map (λ byte. None) (offsets offset count)) ≡ false
+    first : (offset count size : ℕ) → 0 < count
+        → list_all (is_from offset size) (map (λ byte. None) (offsets offset count)) ≡ false
     first offset zero size some = absurd (omega arith)
     first offset (suc count) size some = refl
 
 -- each call keeps the sizes
 module _ (d : ValueSets) (laws : IsValueSets d) where
-  pub weak_sized : (m : FrameMem d) (offset size : ℕ) (set : d.Val) → IsCellSize size → FrameSized d m → d.val_sized set size
+  pub weak_sized : (m : FrameMem d) (offset size : ℕ) (set : d.Val) → IsCellSize size → FrameSized d m
+      → d.val_sized set size
       → FrameSized d (weak d m offset size set)
   weak_sized m offset size set is sized set_sized = record {
     bytes = λ byte. by_test (is_byte_of offset size byte)
@@ -268,14 +285,16 @@ module _ (d : ValueSets) (laws : IsValueSets d) where
         (λ alone. sized.kept place width cell (rw (differ, alone) at kept)));
   }
     where
-      marked : (place width : ℕ) (cell : Cell d.Val) (kept : Option (Cell d.Val)) → m.cells place width ≡ kept → with_x d kept ≡ Some cell
+      marked : (place width : ℕ) (cell : Cell d.Val) (kept : Option (Cell d.Val)) → m.cells place width ≡ kept
+          → with_x d kept ≡ Some cell
           → IfSome cell.value (λ v. d.val_sized v width)
       marked place width cell None at e = cc
       marked place width cell (Some old) at e =
           let c : record { value = old.value; u = old.u; x = true } ≡ cell = cc in
           subst (λ (k : Cell d.Val). IfSome k.value (λ v. d.val_sized v width)) c (sized.kept place width old at)
 
-  pub strong_sized : (m : FrameMem d) (offset size : ℕ) (set : d.Val) → IsCellSize size → FrameSized d m → d.val_sized set size
+  pub strong_sized : (m : FrameMem d) (offset size : ℕ) (set : d.Val) → IsCellSize size → FrameSized d m
+      → d.val_sized set size
       → FrameSized d (strong d m offset size set)
   strong_sized m offset size set is sized set_sized = record {
     bytes =
@@ -300,7 +319,8 @@ module _ (d : ValueSets) (laws : IsValueSets d) where
         (either_alike d.join (λ v. d.val_sized v size) (λ v. d.val_sized v size) (λ x y. laws.joined_sized x y size) (stands d a offset size).value (stands d b offset size).value (stands_sized d laws a s offset size) (stands_sized d laws b t offset size));
   }
 
-  pub pinned_sized : (m : FrameMem d) (offset size : ℕ) (set : d.Val) → FrameSized d m → d.val_sized set size → FrameSized d (pinned d m offset size set)
+  pub pinned_sized : (m : FrameMem d) (offset size : ℕ) (set : d.Val) → FrameSized d m → d.val_sized set size
+      → FrameSized d (pinned d m offset size set)
   pinned_sized m offset size set sized set_sized = record {
     bytes = sized.bytes;
     kept = λ place width cell kept. by_test (is_same offset size place width)

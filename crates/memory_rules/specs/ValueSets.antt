@@ -63,28 +63,40 @@ pub record IsValueSets (d : ValueSets) : Type 0 where
   pub covers_word : (word : d.Word) (value : Value) → d.covers (d.of_word word) value → IsWordOf d word value
   pub word_parts : (set : d.Val) (size bits : ℕ) → d.covers set (Int size bits) → HasWords d set size bits
   pub pointer_parts : (set : d.Val) (frame offset : ℕ) → d.covers set (Ptr frame offset) → d.has_pointer set ≡ true
-  pub joined_words_left : (a b : d.Word) (size bits : ℕ) → d.sized a size → d.sized b size → d.has a size bits → d.has (d.join_words a b) size bits
-  pub joined_words_right : (a b : d.Word) (size bits : ℕ) → d.sized a size → d.sized b size → d.has b size bits → d.has (d.join_words a b) size bits
-  pub joined_left : (a b : d.Val) (size : ℕ) (value : Value) → d.val_sized a size → d.val_sized b size → d.covers a value → d.covers (d.join a b) value
-  pub joined_right : (a b : d.Val) (size : ℕ) (value : Value) → d.val_sized a size → d.val_sized b size → d.covers b value → d.covers (d.join a b) value
+  pub joined_words_left : (a b : d.Word) (size bits : ℕ) → d.sized a size → d.sized b size → d.has a size bits
+      → d.has (d.join_words a b) size bits
+  pub joined_words_right : (a b : d.Word) (size bits : ℕ) → d.sized a size → d.sized b size → d.has b size bits
+      → d.has (d.join_words a b) size bits
+  pub joined_left : (a b : d.Val) (size : ℕ) (value : Value) → d.val_sized a size → d.val_sized b size
+      → d.covers a value → d.covers (d.join a b) value
+  pub joined_right : (a b : d.Val) (size : ℕ) (value : Value) → d.val_sized a size → d.val_sized b size
+      → d.covers b value → d.covers (d.join a b) value
   pub byte_has : (word : d.Word) (size bits place : ℕ) → 8 * place + 8 ≤ size → d.sized word size → d.has word size bits
       → d.has (d.byte place word) 8 (byte_of place bits)
-  pub conc_has : (a b : d.Word) (size x y : ℕ) → size + 8 ≤ 64 → d.sized a size → d.sized b 8 → d.has a size x → d.has b 8 y
+  pub conc_has : (a b : d.Word) (size x y : ℕ) → size + 8 ≤ 64 → d.sized a size → d.sized b 8 → d.has a size x
+      → d.has b 8 y
       → d.has (d.conc a b) (size + 8) (x * 256 + y)
   -- sizes
-  pub byte_sized : (word : d.Word) (size place : ℕ) → 8 * place + 8 ≤ size → d.sized word size → d.sized (d.byte place word) 8
-  pub conc_sized : (a b : d.Word) (size : ℕ) → size + 8 ≤ 64 → d.sized a size → d.sized b 8 → d.sized (d.conc a b) (size + 8)
+  pub byte_sized : (word : d.Word) (size place : ℕ) → 8 * place + 8 ≤ size → d.sized word size
+      → d.sized (d.byte place word) 8
+  pub conc_sized : (a b : d.Word) (size : ℕ) → size + 8 ≤ 64 → d.sized a size → d.sized b 8
+      → d.sized (d.conc a b) (size + 8)
   pub of_word_sized : (word : d.Word) (size : ℕ) → d.sized word size → d.val_sized (d.of_word word) size
-  pub word_part_sized : (set : d.Val) (size : ℕ) (word : d.Word) → d.val_sized set size → d.word_part set ≡ Some word → d.sized word size
+  pub word_part_sized : (set : d.Val) (size : ℕ) (word : d.Word) → d.val_sized set size → d.word_part set ≡ Some word
+      → d.sized word size
   pub joined_words_sized : (a b : d.Word) (size : ℕ) → d.sized a size → d.sized b size → d.sized (d.join_words a b) size
   pub joined_sized : (a b : d.Val) (size : ℕ) → d.val_sized a size → d.val_sized b size → d.val_sized (d.join a b) size
   -- sharpness
-  pub byte_only : (word : d.Word) (size bits place : ℕ) → 8 * place + 8 ≤ size → d.sized word size → OnlyHas d word size bits
+  pub byte_only : (word : d.Word) (size bits place : ℕ) → 8 * place + 8 ≤ size → d.sized word size
+      → OnlyHas d word size bits
       → OnlyHas d (d.byte place word) 8 (byte_of place bits)
-  pub conc_only : (a b : d.Word) (size x y : ℕ) → size + 8 ≤ 64 → d.sized a size → d.sized b 8 → OnlyHas d a size x → OnlyHas d b 8 y
+  pub conc_only : (a b : d.Word) (size x y : ℕ) → size + 8 ≤ 64 → d.sized a size → d.sized b 8 → OnlyHas d a size x
+      → OnlyHas d b 8 y
       → OnlyHas d (d.conc a b) (size + 8) (x * 256 + y)
-  pub only_word : (set : d.Val) (own size bits : ℕ) → d.val_sized set own → OnlyCovers d set (Int size bits) → HasOneWord d set size bits
+  pub only_word : (set : d.Val) (own size bits : ℕ) → d.val_sized set own → OnlyCovers d set (Int size bits)
+      → HasOneWord d set size bits
   pub only_pointer : (set : d.Val) (own frame offset : ℕ) → d.val_sized set own → OnlyCovers d set (Ptr frame offset)
       → (d.word_part set ≡ None) × (d.has_pointer set ≡ true)
-  pub joined_only : (a b : d.Val) (size : ℕ) (value : Value) → d.val_sized a size → d.val_sized b size → OnlyCovers d a value → OnlyCovers d b value
+  pub joined_only : (a b : d.Val) (size : ℕ) (value : Value) → d.val_sized a size → d.val_sized b size
+      → OnlyCovers d a value → OnlyCovers d b value
       → OnlyCovers d (d.join a b) value

@@ -3,7 +3,11 @@
 ghost use Rattle.memory_rules.specs.ValueSets.{IsValueSets};
 ghost use Rattle.memory_rules.specs.AbstractSets.{abstract_sets};
 ghost use Rattle.memory_rules.specs.Addresses.{LoadsAt, StoresAt, FaultsAt, LoadsOnly, StoresOnly, FaultsOnly};
-ghost use Rattle.memory_rules.specs.MemoryLaws.{StoreCovers, LoadCovers, LoadsCover, LoadGathers, LoadsGather, JoinCovers, EnterCovers, LeaveCovers, PinCovers, MemoryPinCovers, MemoryPinSharp, MemoryPinSized, StartSharp, LoadExact, StoreSharp, PinSharp, MemoryStaysSharp, EnterSharp, LeaveSharp, StoreSized, PinSized, JoinSized, EnterSized, LeaveSized};
+ghost use Rattle.memory_rules.specs.MemoryLaws.{StoreCovers, LoadCovers, LoadsCover, LoadGathers, LoadsGather};
+ghost use Rattle.memory_rules.specs.MemoryLaws.{JoinCovers, EnterCovers, LeaveCovers, PinCovers, MemoryPinCovers};
+ghost use Rattle.memory_rules.specs.MemoryLaws.{MemoryPinSharp, MemoryPinSized, StartSharp, LoadExact, StoreSharp};
+ghost use Rattle.memory_rules.specs.MemoryLaws.{PinSharp, MemoryStaysSharp, EnterSharp, LeaveSharp, StoreSized};
+ghost use Rattle.memory_rules.specs.MemoryLaws.{PinSized, JoinSized, EnterSized, LeaveSized};
 
 /// Abstract values, with strided words in bytes, have what a memory needs of its values: joins, bytes
 /// and concatenations keep members and sizes, and from single members come single members.

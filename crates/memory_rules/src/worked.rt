@@ -10,14 +10,16 @@ ghost use Rattle.memory_rules.specs.Addresses.{cells_of};
 
 /// The address means these four cells.
 pub fn an_address_means_its_cells()
-    ensures cells { cells_of one_frame (λ function. false) ((0, record { size = 32; numbers = from_to (pos 0) (pos 12) (pos 4) }) ∷ []) 32 ≡ four_cells }
+    ensures cells { cells_of one_frame (λ function. false)
+        ((0, record { size = 32; numbers = from_to (pos 0) (pos 12) (pos 4) }) ∷ []) 32 ≡ four_cells }
     ensures past { cells_of one_frame (λ function. false) ((0, one_word 32 14) ∷ []) 32 ≡ [] }
 {}
 
 /// Over zeros a load of 32 bits at 8 gives 0 or 7; over nothing it gives 7 or is uninit, and so is a load of
 /// 16 bits there.
 pub fn a_weak_store_joins()
-    ensures over_zeros { told zeros 8 32 ≡ (Some (words_alone (record { size = 32; numbers = from_to (pos 0) (pos 7) (pos 7) })), []) }
+    ensures over_zeros { told zeros 8 32
+        ≡ (Some (words_alone (record { size = 32; numbers = from_to (pos 0) (pos 7) (pos 7) })), []) }
     ensures over_nothing { told [] 8 32 ≡ (Some (words_alone (one_word 32 7)), Uninit ∷ []) }
     ensures of_bytes { told [] 8 16 ≡ (Some (words_alone (one_word 16 7)), Uninit ∷ []) }
 {}

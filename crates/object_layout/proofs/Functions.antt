@@ -38,21 +38,25 @@ name_of_nth [] n = refl
 name_of_nth (f ∷ fs) zero = refl
 name_of_nth (f ∷ fs) (suc n) = name_of_nth fs n
 
-signature_of_nth : (fs : List Function) (n : ℕ) → signature_or_none (map signature_at fs) n ≡ signature_at (function_or_none fs n)
+signature_of_nth : (fs : List Function) (n : ℕ)
+    → signature_or_none (map signature_at fs) n ≡ signature_at (function_or_none fs n)
 signature_of_nth [] n = refl
 signature_of_nth (f ∷ fs) zero = refl
 signature_of_nth (f ∷ fs) (suc n) = signature_of_nth fs n
 
 -- the name of the function of this number
-pub name_at : (unit : UnitTree) (n : ℕ) → slice_index_or (definitions unit.externals) n 0 ≡ (function_at (program_of unit) n).name
+pub name_at : (unit : UnitTree) (n : ℕ)
+    → slice_index_or (definitions unit.externals) n 0 ≡ (function_at (program_of unit) n).name
 name_at unit n = ap (λ (ns : List ℕ). slice_index_or ns n 0) (sym (names_in (record { scope = []; made = [] }) unit.externals)) ∙ name_of_nth (functions_of unit) n
 
 -- what that function gives and takes
-pub signature_is : (unit : UnitTree) (n : ℕ) → signature_or_none (signatures_of unit.externals) n ≡ signature_at (function_at (program_of unit) n)
+pub signature_is : (unit : UnitTree) (n : ℕ)
+    → signature_or_none (signatures_of unit.externals) n ≡ signature_at (function_at (program_of unit) n)
 signature_is unit n =
     ap (λ (ss : List Signature). signature_or_none ss n) (sym (signatures_in (record { scope = []; made = [] }) unit.externals)) ∙ signature_of_nth (functions_of unit) n
 
-shifted : (number : Option ℕ) (n : ℕ) → option_map_or (λ k. k) (option_map (λ k. k + 1) number) (suc n) ≡ option_map_or (λ k. k) number n + 1
+shifted : (number : Option ℕ) (n : ℕ)
+    → option_map_or (λ k. k) (option_map (λ k. k + 1) number) (suc n) ≡ option_map_or (λ k. k) number n + 1
 shifted None n = omega arith
 shifted (Some k) n = refl
 
@@ -78,7 +82,8 @@ named_some unit token n e =
     let here : n ≡ number_named unit.words (functions_of unit) (text_at unit.words token) = sym (ap (λ (k : Option ℕ). option_map_or (λ m. m) k (length (functions_of unit))) e) ∙ number_in unit token in
     signature_is unit n ∙ ap (λ (k : ℕ). signature_at (function_at (program_of unit) k)) here
 
-pub named_none : (unit : UnitTree) (token : ℕ) → number_at unit.words (definitions unit.externals) token ≡ None → named_function (program_of unit) token ≡ no_function
+pub named_none : (unit : UnitTree) (token : ℕ) → number_at unit.words (definitions unit.externals) token ≡ None
+    → named_function (program_of unit) token ≡ no_function
 named_none unit token e =
     let here : length (functions_of unit) ≡ number_named unit.words (functions_of unit) (text_at unit.words token) = sym (ap (λ (k : Option ℕ). option_map_or (λ m. m) k (length (functions_of unit))) e) ∙ number_in unit token in
     ap (λ (k : ℕ). function_at (program_of unit) k) (sym here) ∙ past_all (functions_of unit)

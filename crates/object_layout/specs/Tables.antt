@@ -8,7 +8,8 @@ use Rattle.c_meaning.specs.Objects.{Object, objects_of, program_of}
 use Rattle.c_lowered.specs.Names.{frame_names}
 use Rattle.object_layout.specs.Views.{Signature, signatures_of}
 
-pub record IsTable (unit : UnitTree) (words : List Word) (objects : List Object) (frames : List (List ℕ)) (functions : Made) (signatures : List Signature) : Type 0 where
+pub record IsTable (unit : UnitTree) (words : List Word) (objects : List Object) (frames : List (List ℕ))
+    (functions : Made) (signatures : List Signature) : Type 0 where
   pub words_are : words ≡ unit.words
   pub objects_are : objects ≡ objects_of unit
   pub frames_are : frames ≡ frame_names (program_of unit)

@@ -61,8 +61,12 @@ fn name_of(
     object: Object,
 ) -> Result<Name, AllocError>
     requires words { words.now ≡ (unit_of unit.now).words }
-    requires functions { functions.now ≡ record { words = (unit_of unit.now).words; names = definitions (unit_of unit.now).externals } }
-    ensures { IfOk result (λ name. name ≡ names.name_of_object (program_of (unit_of unit.now)) (reverse (map object_of earlier.now)) (object_of object)) }
+    requires functions { functions.now
+        ≡ record { words = (unit_of unit.now).words; names = definitions (unit_of unit.now).externals } }
+    ensures { IfOk result
+        (λ name. name
+        ≡ names.name_of_object (program_of (unit_of unit.now)) (reverse (map object_of earlier.now))
+        (object_of object)) }
 {
     let text = words.text_at(object.token);
     match object.owner {
@@ -86,8 +90,10 @@ pub fn frame_names(
     objects: &[Object],
 ) -> Result<Vec<Name>, AllocError>
     requires words { words.now ≡ (unit_of unit.now).words }
-    requires functions { functions.now ≡ record { words = (unit_of unit.now).words; names = definitions (unit_of unit.now).externals } }
-    ensures { IfOk result (λ frames. frames.items ≡ names.names_from (program_of (unit_of unit.now)) [] (map object_of objects.now)) }
+    requires functions { functions.now
+        ≡ record { words = (unit_of unit.now).words; names = definitions (unit_of unit.now).externals } }
+    ensures { IfOk result
+        (λ frames. frames.items ≡ names.names_from (program_of (unit_of unit.now)) [] (map object_of objects.now)) }
 {
     let mut frames = Vec::new(alloc);
     for i in 0..objects.len() {

@@ -22,7 +22,10 @@ pub fn put_all_locals(
     row: &[Stmt],
 ) -> Result<(), AllocError>
     requires few { all_elements_in words.now (statements_of (map statement_of row.now)) ≤ most_elements }
-    ensures { OnOk result (map object_of objects.new.items ≡ map object_of objects.old.items ++ meaning.all_locals_in words.now owner (statements_of (map statement_of row.now))) }
+    ensures { OnOk result
+        (map object_of objects.new.items
+        ≡ map object_of objects.old.items
+        ++ meaning.all_locals_in words.now owner (statements_of (map statement_of row.now))) }
 {
     for statement in row {
         put_locals(words, owner, objects, statement)?;
@@ -39,7 +42,9 @@ fn put_locals(
     statement: &Stmt,
 ) -> Result<(), AllocError>
     requires few { elements_in words.now (statement_of statement.now) ≤ most_elements }
-    ensures { OnOk result (map object_of objects.new.items ≡ map object_of objects.old.items ++ meaning.locals_in words.now owner (statement_of statement.now)) }
+    ensures { OnOk result
+        (map object_of objects.new.items
+        ≡ map object_of objects.old.items ++ meaning.locals_in words.now owner (statement_of statement.now)) }
 {
     match statement {
         Stmt::Declare(_, kind, locals) => put_declared(words, owner, objects, *kind, locals),
@@ -82,7 +87,10 @@ fn put_declared(
     locals: &[Local],
 ) -> Result<(), AllocError>
     requires few { elements_of_all words.now (map local_of locals.now) ≤ most_elements }
-    ensures { OnOk result (map object_of objects.new.items ≡ map object_of objects.old.items ++ map (meaning.local_object words.now owner kind) (map local_of locals.now)) }
+    ensures { OnOk result
+        (map object_of objects.new.items
+        ≡ map object_of objects.old.items
+        ++ map (meaning.local_object words.now owner kind) (map local_of locals.now)) }
 {
     for local in locals {
         put_local(words, owner, objects, kind, local)?;
@@ -99,7 +107,9 @@ fn put_local(
     local: &Local,
 ) -> Result<(), AllocError>
     requires few { elements_of words.now (local_of local.now).shape ≤ most_elements }
-    ensures { OnOk result (map object_of objects.new.items ≡ map object_of objects.old.items ++ meaning.local_object words.now owner kind (local_of local.now) ∷ []) }
+    ensures { OnOk result
+        (map object_of objects.new.items
+        ≡ map object_of objects.old.items ++ meaning.local_object words.now owner kind (local_of local.now) ∷ []) }
 {
     objects.push(Object {
         token: local.name,

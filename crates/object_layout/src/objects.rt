@@ -48,7 +48,9 @@ fn put_globals(
     externals: &[External],
 ) -> Result<(), AllocError>
     requires few { all_elements_of words.now (map external_of externals.now) ≤ most_elements }
-    ensures { OnOk result (map object_of objects.new.items ≡ map object_of objects.old.items ++ meaning.globals_in words.now (map external_of externals.now)) }
+    ensures { OnOk result
+        (map object_of objects.new.items
+        ≡ map object_of objects.old.items ++ meaning.globals_in words.now (map external_of externals.now)) }
 {
     let mut rest = externals;
     'externals: while let Some((external, others)) = rest.split_first() {
@@ -71,7 +73,10 @@ fn put_declared(
     declarators: &[Declarator],
 ) -> Result<(), AllocError>
     requires few { elements_of_declarators words.now (map declarator_of declarators.now) ≤ most_elements }
-    ensures { OnOk result (map object_of objects.new.items ≡ map object_of objects.old.items ++ meaning.globals_declared words.now kind (map declarator_of declarators.now)) }
+    ensures { OnOk result
+        (map object_of objects.new.items
+        ≡ map object_of objects.old.items
+        ++ meaning.globals_declared words.now kind (map declarator_of declarators.now)) }
 {
     for declarator in declarators {
         put_global(words, objects, kind, declarator.name, &declarator.shape)?;
@@ -88,7 +93,9 @@ fn put_global(
     shape: &Shape,
 ) -> Result<(), AllocError>
     requires few { elements_of_shape words.now (shape_of shape.now) ≤ most_elements }
-    ensures { OnOk result (map object_of objects.new.items ≡ map object_of objects.old.items ++ meaning.global_object words.now kind token (shape_of shape.now)) }
+    ensures { OnOk result
+        (map object_of objects.new.items
+        ≡ map object_of objects.old.items ++ meaning.global_object words.now kind token (shape_of shape.now)) }
 {
     let bits = match shape {
         Shape::Integer(_) => bits_of_type(kind),
@@ -111,7 +118,9 @@ fn put_owned(
 ) -> Result<(), AllocError>
     requires few { all_elements_of words.now (map external_of externals.now) ≤ most_elements }
     requires functions { length (definitions (map external_of externals.now)) ≤ most_functions }
-    ensures { OnOk result (map object_of objects.new.items ≡ map object_of objects.old.items ++ meaning.owned_in words.now 0 (map external_of externals.now)) }
+    ensures { OnOk result
+        (map object_of objects.new.items
+        ≡ map object_of objects.old.items ++ meaning.owned_in words.now 0 (map external_of externals.now)) }
 {
     let mut owner: u32 = 0;
     let mut rest = externals;
@@ -131,9 +140,13 @@ fn put_function(
 ) -> Result<u32, AllocError>
     requires few { elements_of words.now (external_of external.now) ≤ most_elements }
     requires room { owner + 1 < 2 ^ 32 }
-    ensures objects { IfOk result (λ next. (others : List ExternalTree) → map object_of objects.new.items ++ meaning.owned_in words.now next others
+    ensures objects { IfOk result
+        (λ next. (others : List ExternalTree)
+        → map object_of objects.new.items ++ meaning.owned_in words.now next others
         ≡ map object_of objects.old.items ++ meaning.owned_in words.now owner (external_of external.now ∷ others)) }
-    ensures number { IfOk result (λ next. (others : List ExternalTree) → next + length (definitions others) ≡ owner + length (definitions (external_of external.now ∷ others))) }
+    ensures number { IfOk result
+        (λ next. (others : List ExternalTree)
+        → next + length (definitions others) ≡ owner + length (definitions (external_of external.now ∷ others))) }
 {
     match external {
         External::Declare(_, _, _) => Ok(owner),
@@ -151,7 +164,9 @@ fn put_parameters(
     objects: &mut Vec<Object>,
     parameters: &[Parameter],
 ) -> Result<(), AllocError>
-    ensures { OnOk result (map object_of objects.new.items ≡ map object_of objects.old.items ++ map (meaning.parameter_object owner) parameters.now) }
+    ensures { OnOk result
+        (map object_of objects.new.items
+        ≡ map object_of objects.old.items ++ map (meaning.parameter_object owner) parameters.now) }
 {
     for parameter in parameters {
         put_parameter(owner, objects, parameter)?;
@@ -165,7 +180,9 @@ fn put_parameter(
     objects: &mut Vec<Object>,
     parameter: &Parameter,
 ) -> Result<(), AllocError>
-    ensures { OnOk result (map object_of objects.new.items ≡ map object_of objects.old.items ++ meaning.parameter_object owner parameter.now ∷ []) }
+    ensures { OnOk result
+        (map object_of objects.new.items
+        ≡ map object_of objects.old.items ++ meaning.parameter_object owner parameter.now ∷ []) }
 {
     objects.push(Object {
         token: parameter_token(parameter),

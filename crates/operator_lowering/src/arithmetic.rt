@@ -105,7 +105,8 @@ pub fn difference_value(
     left: Expr,
     right: Expr,
 ) -> Result<Expr, AllocError>
-    ensures { IfOk result (λ e. expression_of e ≡ values.difference_value a b (expression_of left) (expression_of right)) }
+    ensures { IfOk result
+        (λ e. expression_of e ≡ values.difference_value a b (expression_of left) (expression_of right)) }
 {
     match a {
         Scalar::Integer(_) => difference(alloc, left, right),
@@ -130,7 +131,8 @@ pub fn element_address(
     base: Expr,
     index: Expr,
 ) -> Result<Expr, AllocError>
-    ensures { IfOk result (λ e. expression_of e ≡ values.element_address a b (expression_of base) (expression_of index)) }
+    ensures { IfOk result
+        (λ e. expression_of e ≡ values.element_address a b (expression_of base) (expression_of index)) }
 {
     let bytes = scaled(alloc, pointee(a), b, index)?;
     sum(alloc, base, bytes)

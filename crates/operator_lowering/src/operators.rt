@@ -21,7 +21,8 @@ fn bit_value(alloc: Global, operand: Expr) -> Result<Expr, AllocError>
 
 /// A comparison, as a word.
 pub fn compared(alloc: Global, op: Op, left: Expr, right: Expr) -> Result<Expr, AllocError>
-    ensures { IfOk result (λ e. expression_of e ≡ values.bit_value (values.compared op (expression_of left) (expression_of right))) }
+    ensures { IfOk result
+        (λ e. expression_of e ≡ values.bit_value (values.compared op (expression_of left) (expression_of right))) }
 {
     let test = of_two(alloc, op, left, right)?;
     bit_value(alloc, test)
@@ -36,7 +37,8 @@ pub fn binary_value(
     left: Expr,
     right: Expr,
 ) -> Result<Expr, AllocError>
-    ensures { IfOk result (λ e. expression_of e ≡ values.binary_value op a b (expression_of left) (expression_of right)) }
+    ensures { IfOk result
+        (λ e. expression_of e ≡ values.binary_value op a b (expression_of left) (expression_of right)) }
 {
     let kind = shared(a, b);
     match op {

@@ -21,7 +21,9 @@ pub fn unary_value(
     kind: Scalar,
     operand: Expr,
 ) -> Result<Expr, AllocError>
-    ensures { IfOk result (λ e. (value place : NamedExpression) → expression_of operand ≡ operand_of op value place → expression_of e ≡ values.unary_value op kind value place) }
+    ensures { IfOk result
+        (λ e. (value place : NamedExpression) → expression_of operand ≡ operand_of op value place
+        → expression_of e ≡ values.unary_value op kind value place) }
 {
     match op {
         Unary::Not => compared(alloc, Op::Eq, operand, whole(0)),

@@ -95,7 +95,8 @@ fn one_operand(alloc: Global, operand: Expr) -> Result<Vec<Expr>, AllocError>
 }
 
 fn two_operands(alloc: Global, left: Expr, right: Expr) -> Result<Vec<Expr>, AllocError>
-    ensures { IfOk result (λ operands. map expression_of operands.items ≡ expression_of left ∷ expression_of right ∷ []) }
+    ensures { IfOk result
+        (λ operands. map expression_of operands.items ≡ expression_of left ∷ expression_of right ∷ []) }
 {
     let mut operands = Vec::with_capacity(alloc, 2)?;
     operands.push(left)?;
@@ -109,7 +110,9 @@ fn three_operands(
     right: Expr,
     carry: Expr,
 ) -> Result<Vec<Expr>, AllocError>
-    ensures { IfOk result (λ operands. map expression_of operands.items ≡ expression_of left ∷ expression_of right ∷ expression_of carry ∷ []) }
+    ensures { IfOk result
+        (λ operands. map expression_of operands.items
+        ≡ expression_of left ∷ expression_of right ∷ expression_of carry ∷ []) }
 {
     let mut operands = Vec::with_capacity(alloc, 3)?;
     operands.push(left)?;
@@ -142,7 +145,8 @@ pub fn converted(
 
 /// An operator of the size 32 over two operands.
 pub fn of_two(alloc: Global, op: Op, left: Expr, right: Expr) -> Result<Expr, AllocError>
-    ensures { IfOk result (λ e. expression_of e ≡ values.of_two op values.size (expression_of left) (expression_of right)) }
+    ensures { IfOk result
+        (λ e. expression_of e ≡ values.of_two op values.size (expression_of left) (expression_of right)) }
 {
     let operands = two_operands(alloc, left, right)?;
     Ok(Expr::Apply(op, one_size(32), operands))
@@ -150,7 +154,8 @@ pub fn of_two(alloc: Global, op: Op, left: Expr, right: Expr) -> Result<Expr, Al
 
 /// An operator of the sizes 32 and 32.
 pub fn of_pair(alloc: Global, op: Op, left: Expr, right: Expr) -> Result<Expr, AllocError>
-    ensures { IfOk result (λ e. expression_of e ≡ values.of_two op values.sizes (expression_of left) (expression_of right)) }
+    ensures { IfOk result
+        (λ e. expression_of e ≡ values.of_two op values.sizes (expression_of left) (expression_of right)) }
 {
     let operands = two_operands(alloc, left, right)?;
     Ok(Expr::Apply(op, two_sizes(32, 32), operands))
@@ -164,7 +169,10 @@ pub fn with_carry(
     right: Expr,
     carry: bool,
 ) -> Result<Expr, AllocError>
-    ensures { IfOk result (λ e. expression_of e ≡ values.of_three op values.size (expression_of left) (expression_of right) (values.bit (if carry then 1 else 0))) }
+    ensures { IfOk result
+        (λ e. expression_of e
+        ≡ values.of_three op values.size (expression_of left) (expression_of right)
+        (values.bit (if carry then 1 else 0))) }
 {
     let operands = three_operands(alloc, left, right, bit(carry))?;
     Ok(Expr::Apply(op, one_size(32), operands))

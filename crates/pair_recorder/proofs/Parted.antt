@@ -57,7 +57,8 @@ module _ (w : ℕ) (new a b : List ℕ) (each : (base n : ℕ) → is_marked new
       ap (λ (v : ℕ). is_set v (k % 64)) (get_or-drop w xs (base + k / 64) 0)
       ∙ ap (λ (i : ℕ). is_set (get_or xs i 0) (k % 64)) (let e : w + (base + k / 64) ≡ w + base + k / 64 = omega arith in e)
 
-  pub back_either : (base k : ℕ) → is_marked (drop w new) base k ≡ (is_marked (drop w a) base k || is_marked (drop w b) base k)
+  pub back_either : (base k : ℕ)
+      → is_marked (drop w new) base k ≡ (is_marked (drop w a) base k || is_marked (drop w b) base k)
   back_either base k =
       back_is new base k ∙ each (w + base) k
       ∙ ap (λ (x : Bool). x || is_marked b (w + base) k) (sym (back_is a base k)) ∙ ap (λ (x : Bool). is_marked (drop w a) base k || x) (sym (back_is b base k))

@@ -24,7 +24,8 @@ abbrev with_pairs : List Bool → List (List Bool) → Sightings
 with_pairs xs ys = record { seen = xs; pairs = ys }
 
 -- the same as bits
-pub marked_path : (n : ℕ) (path : List Seen) (scopes seen rows : List ℕ) → ((a : ℕ) → a < n → is_marked seen 0 a ≡ entered a path)
+pub marked_path : (n : ℕ) (path : List Seen) (scopes seen rows : List ℕ)
+    → ((a : ℕ) → a < n → is_marked seen 0 a ≡ entered a path)
     → ((a b : ℕ) → a < n → b < n → is_marked rows (a * words_for n) b ≡ list_any (λ s. paired_in (λ t. t == s) a b path) scopes) → AreWithin path scopes → sightings n seen rows ≡ path_sightings n path
 marked_path n path scopes seen rows marks pairs within =
     ap (λ (xs : List Bool). with_pairs xs (tabled n n (λ a b. is_marked rows (a * words_for n) b))) (generated_same n (λ a. is_marked seen 0 a) (λ a. entered a path) marks)
@@ -32,7 +33,8 @@ marked_path n path scopes seen rows marks pairs within =
     (tabled_same n n (λ a b. is_marked rows (a * words_for n) b) (λ a b. paired a b path) (λ a b low inside. pairs a b low inside ∙ any_paired a b scopes path ∙ within_paired a b scopes path within))
 
 -- where no scope ends
-pub none_left : (scopes : List ℕ) (path : List Seen) → length scopes ≡ 0 → path ≡ filter (λ e. not (list_any (λ s. e.scope == s) scopes)) path
+pub none_left : (scopes : List ℕ) (path : List Seen) → length scopes ≡ 0
+    → path ≡ filter (λ e. not (list_any (λ s. e.scope == s) scopes)) path
 none_left [] [] none = refl
 none_left [] (e ∷ path) none = ap (λ (xs : List Seen). e ∷ xs) (none_left [] path none)
 none_left (s ∷ scopes) path none = absurd (omega arith)
@@ -104,7 +106,8 @@ module _ (o : Outlined) (from k n : ℕ) (path : List Seen) (own : AreOwn (shape
       ∙ ap (λ (x : Bool). x || (a == k))
       (entered_kept (shape_of o) is_ended a path own ∙ ap (λ (x : Bool). entered a path && not x) (is (own_of (shape_of o) a)) ∙ ap (λ (x : Bool). x && not (ends_of a)) (sym (seen_is a low)))
 
-  stays : (a b : ℕ) → a < n → b < n → paired a b left ≡ (cell before.pairs a b && not (is_over (shape_of o) before.seen from k a))
+  stays : (a b : ℕ) → a < n → b < n
+      → paired a b left ≡ (cell before.pairs a b && not (is_over (shape_of o) before.seen from k a))
   stays a b low inside =
       paired_kept (shape_of o) is_ended a b path own
       ∙ ap (λ (x : Bool). paired a b path && not x) (is (own_of (shape_of o) a))
@@ -127,7 +130,8 @@ module _ (o : Outlined) (from k n : ℕ) (path : List Seen) (own : AreOwn (shape
       ∙ ap (λ (x : Bool). x || ((a == k) && met b last.scope (left ++ last ∷ []))) (stays a b low inside)
       ∙ ap (λ (x : Bool). (cell before.pairs a b && not (is_over (shape_of o) before.seen from k a)) || x) (meets a b inside)
 
-  pub gone_path : (b : PairBook) → n ≡ length o.nodes → path_sightings n (left ++ last ∷ []) ≡ pair_recording.gone o before b from k
+  pub gone_path : (b : PairBook) → n ≡ length o.nodes
+      → path_sightings n (left ++ last ∷ []) ≡ pair_recording.gone o before b from k
   gone_path b same =
       subst (λ (m : ℕ). path_sightings n (left ++ last ∷ []) ≡ with_pairs (generated m (λ a. seen_after (shape_of o) before.seen from k a)) (tabled m m (λ a c. pair_after (shape_of o) before from k a c))) same
       (ap (λ (xs : List Bool). with_pairs xs (tabled n n (λ a c. paired a c (left ++ last ∷ [])))) (generated_same n (λ a. entered a (left ++ last ∷ [])) (λ a. seen_after (shape_of o) before.seen from k a) seen_now)

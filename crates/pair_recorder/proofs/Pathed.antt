@@ -37,11 +37,13 @@ eqb_turned m n = by_test (m == n) (λ is. is ∙ sym (eq-eqb n m (sym (eqb-true 
 
 -- ---- one node more
 
-pub entered-joined : (a : ℕ) (path : List Seen) (e : Seen) → entered a (path ++ e ∷ []) ≡ (entered a path || (a == e.node))
+pub entered-joined : (a : ℕ) (path : List Seen) (e : Seen)
+    → entered a (path ++ e ∷ []) ≡ (entered a path || (a == e.node))
 entered-joined a [] e = or_nothing (a == e.node)
 entered-joined a (x ∷ path) e = ap (λ (t : Bool). (a == x.node) || t) (entered-joined a path e) ∙ sym (or_thrice (a == x.node) (entered a path) (a == e.node))
 
-pub met-joined : (a t : ℕ) (path : List Seen) (e : Seen) → met a t (path ++ e ∷ []) ≡ (met a t path || ((a == e.node) && (t == e.scope)))
+pub met-joined : (a t : ℕ) (path : List Seen) (e : Seen)
+    → met a t (path ++ e ∷ []) ≡ (met a t path || ((a == e.node) && (t == e.scope)))
 met-joined a t [] e = or_nothing ((a == e.node) && (t == e.scope))
 met-joined a t (x ∷ path) e =
     ap (λ (s : Bool). ((a == x.node) && (t == x.scope)) || s) (met-joined a t path e) ∙ sym (or_thrice ((a == x.node) && (t == x.scope)) (met a t path) ((a == e.node) && (t == e.scope)))
@@ -81,7 +83,8 @@ module _ (path : List Seen) (i : ℕ) (d : Seen) (low : i < length path) where
   pub entered_more : (a : ℕ) → entered a (take (i + 1) path) ≡ (entered a (take i path) || (a == at_i.node))
   entered_more a = ap (λ (xs : List Seen). entered a xs) (take_more path i d low) ∙ entered-joined a (take i path) at_i
 
-  pub met_more : (a t : ℕ) → met a t (take (i + 1) path) ≡ (met a t (take i path) || ((a == at_i.node) && (t == at_i.scope)))
+  pub met_more : (a t : ℕ)
+      → met a t (take (i + 1) path) ≡ (met a t (take i path) || ((a == at_i.node) && (t == at_i.scope)))
   met_more a t = ap (λ (xs : List Seen). met a t xs) (take_more path i d low) ∙ met-joined a t (take i path) at_i
 
   pub paired_more : (t a b : ℕ) → paired_in (λ s. s == t) a b (take (i + 1) path) ≡ (paired_in (λ s. s == t) a b (take i path) || ((at_i.scope == t) && ((a == at_i.node) && met b t (take (i + 1) path))))
@@ -108,17 +111,21 @@ pub own_kept : (o : Shape) (test : Seen → Bool) (path : List Seen) → AreOwn 
 own_kept o test [] own = tt
 own_kept o test (x ∷ path) own = by_test (test x) (λ is. rw is (own.0, own_kept o test path own.1)) (λ clear. rw clear (own_kept o test path own.1))
 
-pub own_joined : (o : Shape) (path : List Seen) (e : Seen) → AreOwn o path → own_of o e.node ≡ e.scope → AreOwn o (path ++ e ∷ [])
+pub own_joined : (o : Shape) (path : List Seen) (e : Seen) → AreOwn o path → own_of o e.node ≡ e.scope
+    → AreOwn o (path ++ e ∷ [])
 own_joined o [] e own is = (is, tt)
 own_joined o (x ∷ path) e own is = (own.0, own_joined o path e own.1 is)
 
-pub within_joined : (path : List Seen) (e : Seen) (old new : List ℕ) → ((t : ℕ) → list_any (λ s. t == s) old ≡ true → list_any (λ s. t == s) new ≡ true) → list_any (λ s. e.scope == s) new ≡ true → AreWithin path old
+pub within_joined : (path : List Seen) (e : Seen) (old new : List ℕ)
+    → ((t : ℕ) → list_any (λ s. t == s) old ≡ true → list_any (λ s. t == s) new ≡ true)
+    → list_any (λ s. e.scope == s) new ≡ true → AreWithin path old
     → AreWithin (path ++ e ∷ []) new
 within_joined [] e old new kept is within = (is, tt)
 within_joined (x ∷ path) e old new kept is within = (kept x.scope within.0, within_joined path e old new kept is within.1)
 
 -- a node of the path
-pub below_at : (n : ℕ) (path : List Seen) (i : ℕ) (d : Seen) → AreBelow n path → i < length path → (get_or path i d).node < n
+pub below_at : (n : ℕ) (path : List Seen) (i : ℕ) (d : Seen) → AreBelow n path → i < length path
+    → (get_or path i d).node < n
 below_at n [] i d below low = absurd (omega arith)
 below_at n (x ∷ path) zero d below low = below.0
 below_at n (x ∷ path) (suc i) d below low = below_at n path i d below.1 (omega arith)
@@ -136,7 +143,8 @@ any_none : (xs : List ℕ) → list_any (λ s. false) xs ≡ false
 any_none [] = refl
 any_none (x ∷ xs) = any_none xs
 
-pub any_paired : (a b : ℕ) (scopes : List ℕ) (path : List Seen) → list_any (λ s. paired_in (λ t. t == s) a b path) scopes ≡ paired_in (λ t. list_any (λ s. t == s) scopes) a b path
+pub any_paired : (a b : ℕ) (scopes : List ℕ) (path : List Seen)
+    → list_any (λ s. paired_in (λ t. t == s) a b path) scopes ≡ paired_in (λ t. list_any (λ s. t == s) scopes) a b path
 any_paired a b scopes [] = any_none scopes
 any_paired a b scopes (e ∷ path) =
     any_either (λ s. (e.scope == s) && ((b == e.node) && met a e.scope (e ∷ path))) (λ s. paired_in (λ t. t == s) a b path) scopes
@@ -144,7 +152,8 @@ any_paired a b scopes (e ∷ path) =
     ∙ ap (λ (t : Bool). (list_any (λ s. e.scope == s) scopes && ((b == e.node) && met a e.scope (e ∷ path))) || t) (any_paired a b scopes path)
 
 -- all of them
-pub within_paired : (a b : ℕ) (scopes : List ℕ) (path : List Seen) → AreWithin path scopes → paired_in (λ t. list_any (λ s. t == s) scopes) a b path ≡ paired a b path
+pub within_paired : (a b : ℕ) (scopes : List ℕ) (path : List Seen) → AreWithin path scopes
+    → paired_in (λ t. list_any (λ s. t == s) scopes) a b path ≡ paired a b path
 within_paired a b scopes [] within = refl
 within_paired a b scopes (e ∷ path) within =
     ap (λ (t : Bool). (t && ((b == e.node) && met a e.scope (e ∷ path))) || paired_in (λ t. list_any (λ s. t == s) scopes) a b path) within.0
@@ -152,7 +161,8 @@ within_paired a b scopes (e ∷ path) within =
 
 -- ---- where each scope is the own scope of its node
 
-pub own_met : (o : Shape) (b t : ℕ) (path : List Seen) → AreOwn o path → met b t path ≡ ((own_of o b == t) && entered b path)
+pub own_met : (o : Shape) (b t : ℕ) (path : List Seen) → AreOwn o path
+    → met b t path ≡ ((own_of o b == t) && entered b path)
 own_met o b t [] own = sym (none (own_of o b == t))
   where
     none : (x : Bool) → (x && false) ≡ false
@@ -194,7 +204,8 @@ scope_met o a t path own is = eqb-true (own_of o a) t (and_parts (own_of o a == 
 
 module _ (o : Shape) (p : ℕ → Bool) where
   -- the pairs with scopes that pass the test
-  pub own_paired : (a b : ℕ) (path : List Seen) → AreOwn o path → paired_in p a b path ≡ (paired a b path && p (own_of o a))
+  pub own_paired : (a b : ℕ) (path : List Seen) → AreOwn o path
+      → paired_in p a b path ≡ (paired a b path && p (own_of o a))
   own_paired a b [] own = refl
   own_paired a b (e ∷ path) own =
       ap (λ (x : Bool). (p e.scope && ((b == e.node) && met a e.scope (e ∷ path))) || x) (own_paired a b path own.1)
@@ -239,14 +250,16 @@ module _ (o : Shape) (p : ℕ → Bool) where
       other_gone_too : (m x k : Bool) → ((x && false) || (m && k)) ≡ (((x && false) || m) && k)
       other_gone_too m x k = grind arith
 
-  pub entered_kept : (a : ℕ) (path : List Seen) → AreOwn o path → entered a (filter keeps path) ≡ (entered a path && not (p (own_of o a)))
+  pub entered_kept : (a : ℕ) (path : List Seen) → AreOwn o path
+      → entered a (filter keeps path) ≡ (entered a path && not (p (own_of o a)))
   entered_kept a path own =
       by_own (filter keeps path) (own_kept o keeps path own) ∙ met_kept a (own_of o a) path ∙ ap (λ (x : Bool). x && not (p (own_of o a))) (sym (by_own path own))
     where
       by_own : (xs : List Seen) → AreOwn o xs → entered a xs ≡ met a (own_of o a) xs
       by_own xs its = sym (own_met o a (own_of o a) xs its ∙ ap (λ (x : Bool). x && entered a xs) (eqb_itself (own_of o a)))
 
-  pub paired_kept : (a b : ℕ) (path : List Seen) → AreOwn o path → paired a b (filter keeps path) ≡ (paired a b path && not (p (own_of o a)))
+  pub paired_kept : (a b : ℕ) (path : List Seen) → AreOwn o path
+      → paired a b (filter keeps path) ≡ (paired a b path && not (p (own_of o a)))
   paired_kept a b [] own = refl
   paired_kept a b (e ∷ path) own =
       by_test (p e.scope)

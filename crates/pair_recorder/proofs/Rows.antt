@@ -10,7 +10,8 @@ or_nothing : (x : Bool) → (x || false) ≡ x
 or_nothing true = refl
 or_nothing false = refl
 
-pub added_row : (w k : ℕ) (met old new : List ℕ) → AreInRange (k * w) w (λ i. bit_or (get_or old i 0) (get_or met (0 + (i - k * w)) 0)) old new
+pub added_row : (w k : ℕ) (met old new : List ℕ)
+    → AreInRange (k * w) w (λ i. bit_or (get_or old i 0) (get_or met (0 + (i - k * w)) 0)) old new
     → (a b : ℕ) → b < 64 * w → is_marked new (a * w) b ≡ (is_marked old (a * w) b || ((a == k) && is_marked met 0 b))
 added_row w k met old new changed a b low =
     ap (λ (v : ℕ). is_set v (b % 64)) (changed (a * w + b / 64) ∙ ap (λ (t : Bool). cond t (bit_or (get_or old (a * w + b / 64) 0) (get_or met (0 + (a * w + b / 64 - k * w)) 0)) (get_or old (a * w + b / 64) 0)) (row_range w k a (b / 64) (omega arith)))

@@ -28,9 +28,17 @@ pub fn advance(
     requires rows { length rows.old ≡ length outline.now.nodes * words_for (length outline.now.nodes) }
     requires book { length book.old ≡ length outline.now.nodes * words_for (length outline.now.nodes) }
     requires owned_length { length owned.now ≡ length outline.now.scopes * words_for (length outline.now.nodes) }
-    requires owned { AreOwned (shape_of outline.now) (length outline.now.scopes) (length outline.now.nodes) (words_for (length outline.now.nodes)) owned.now }
-    ensures recorder { OnOk result ((b : PairBook) → sightings (length outline.now.nodes) seen.new rows.new ≡ pair_recording.gone outline.now (sightings (length outline.now.nodes) seen.old rows.old) b from to) }
-    ensures book { OnOk result ((s : ℕ) → pair_book (length outline.now.nodes) s owned.now book.new ≡ pair_recording.gone_book outline.now (sightings (length outline.now.nodes) seen.old rows.old) (pair_book (length outline.now.nodes) s owned.now book.old) from to) }
+    requires owned { AreOwned (shape_of outline.now) (length outline.now.scopes) (length outline.now.nodes)
+        (words_for (length outline.now.nodes)) owned.now }
+    ensures recorder { OnOk result
+        ((b : PairBook)
+        → sightings (length outline.now.nodes) seen.new rows.new
+        ≡ pair_recording.gone outline.now (sightings (length outline.now.nodes) seen.old rows.old) b from to) }
+    ensures book { OnOk result
+        ((s : ℕ)
+        → pair_book (length outline.now.nodes) s owned.now book.new
+        ≡ pair_recording.gone_book outline.now (sightings (length outline.now.nodes) seen.old rows.old)
+        (pair_book (length outline.now.nodes) s owned.now book.old) from to) }
 {
     leave(alloc, outline, owned, seen, rows, book, from, to)?;
     enter(alloc, outline, owned, seen, rows, to)?;

@@ -16,7 +16,8 @@ use std::alloc::{AllocError, Global};
 
 /// Node 0 alone is seen.
 pub fn bits_begun(alloc: Global, outline: &Outline) -> Result<Vec<u64>, AllocError>
-    ensures bits { IfOk result (λ bits. bit_sightings (length outline.now.nodes) bits.items ≡ pair_recording.first outline.now) }
+    ensures bits { IfOk result
+        (λ bits. bit_sightings (length outline.now.nodes) bits.items ≡ pair_recording.first outline.now) }
     ensures sized { IfOk result (λ bits. AreBits (length outline.now.nodes) bits.items) }
 {
     outline.kept();
@@ -38,7 +39,9 @@ pub fn bits_joined(
 ) -> Result<Vec<u64>, AllocError>
     requires first { AreBits count first.now }
     requires second { AreBits count second.now }
-    ensures bits { IfOk result (λ bits. bit_sightings count bits.items ≡ both_seen (bit_sightings count first.now) (bit_sightings count second.now)) }
+    ensures bits { IfOk result
+        (λ bits. bit_sightings count bits.items
+        ≡ both_seen (bit_sightings count first.now) (bit_sightings count second.now)) }
     ensures sized { IfOk result (λ bits. AreBits count bits.items) }
 {
     let bits = both(alloc, first, second)?;
@@ -60,9 +63,17 @@ pub fn bits_go(
     requires bits { AreBits (length outline.now.nodes) bits.old }
     requires collected { length collected.old ≡ length outline.now.nodes * words_for (length outline.now.nodes) }
     requires owned_length { length owned.now ≡ length outline.now.scopes * words_for (length outline.now.nodes) }
-    requires owned { AreOwned (shape_of outline.now) (length outline.now.scopes) (length outline.now.nodes) (words_for (length outline.now.nodes)) owned.now }
-    ensures gone { OnOk result ((b : PairBook) → bit_sightings (length outline.now.nodes) bits.new ≡ pair_recording.gone outline.now (bit_sightings (length outline.now.nodes) bits.old) b from to) }
-    ensures collected { OnOk result ((s : ℕ) → pair_book (length outline.now.nodes) s owned.now collected.new ≡ pair_recording.gone_book outline.now (bit_sightings (length outline.now.nodes) bits.old) (pair_book (length outline.now.nodes) s owned.now collected.old) from to) }
+    requires owned { AreOwned (shape_of outline.now) (length outline.now.scopes) (length outline.now.nodes)
+        (words_for (length outline.now.nodes)) owned.now }
+    ensures gone { OnOk result
+        ((b : PairBook)
+        → bit_sightings (length outline.now.nodes) bits.new
+        ≡ pair_recording.gone outline.now (bit_sightings (length outline.now.nodes) bits.old) b from to) }
+    ensures collected { OnOk result
+        ((s : ℕ)
+        → pair_book (length outline.now.nodes) s owned.now collected.new
+        ≡ pair_recording.gone_book outline.now (bit_sightings (length outline.now.nodes) bits.old)
+        (pair_book (length outline.now.nodes) s owned.now collected.old) from to) }
 {
     outline.kept();
     let width = words(outline.node_count());
@@ -75,7 +86,9 @@ pub fn bits_go(
 pub fn bits_finish(count: u32, bits: &[u64], collected: &mut [u64])
     requires bits { AreBits count bits.now }
     requires collected { length collected.old ≡ count * words_for count }
-    ensures { (o : Outlined) (s k : ℕ) (owned : List ℕ) → count ≡ length o.nodes → pair_book count s owned collected.new ≡ pair_recording.finished o (bit_sightings count bits.now) (pair_book count s owned collected.old) k }
+    ensures { (o : Outlined) (s k : ℕ) (owned : List ℕ) → count ≡ length o.nodes
+        → pair_book count s owned collected.new
+        ≡ pair_recording.finished o (bit_sightings count bits.now) (pair_book count s owned collected.old) k }
 {
     let (seen, rows) = bits.split_at(words(count));
     add_marked(collected, rows, seen, count as usize);

@@ -15,7 +15,9 @@ fn meet(node: u32, marks: &mut [u64], count: usize, rows: &mut [u64])
     requires marks { count ≤ 64 * length marks.old }
     requires rows { length rows.old ≡ count * length marks.old }
     ensures marks { (a : ℕ) → a < count → is_marked marks.new 0 a ≡ (is_marked marks.old 0 a || (a == node)) }
-    ensures rows { (a b : ℕ) → a < count → b < count → is_marked rows.new (a * length marks.old) b ≡ (is_marked rows.old (a * length marks.old) b || ((a == node) && is_marked marks.new 0 b)) }
+    ensures rows { (a b : ℕ) → a < count → b < count
+        → is_marked rows.new (a * length marks.old) b
+        ≡ (is_marked rows.old (a * length marks.old) b || ((a == node) && is_marked marks.new 0 b)) }
 {
     let width = marks.len();
     mark(marks, 0, node);
@@ -27,8 +29,12 @@ fn meet_within(seen: &Seen, scope: u32, marks: &mut [u64], count: usize, rows: &
     requires node { seen.now.node < count }
     requires marks { count ≤ 64 * length marks.old }
     requires rows { length rows.old ≡ count * length marks.old }
-    ensures marks { (a : ℕ) → a < count → is_marked marks.new 0 a ≡ (is_marked marks.old 0 a || ((a == seen.now.node) && (scope == seen.now.scope))) }
-    ensures rows { (a b : ℕ) → a < count → b < count → is_marked rows.new (a * length marks.old) b ≡ (is_marked rows.old (a * length marks.old) b || ((seen.now.scope == scope) && ((a == seen.now.node) && is_marked marks.new 0 b))) }
+    ensures marks { (a : ℕ) → a < count
+        → is_marked marks.new 0 a ≡ (is_marked marks.old 0 a || ((a == seen.now.node) && (scope == seen.now.scope))) }
+    ensures rows { (a b : ℕ) → a < count → b < count
+        → is_marked rows.new (a * length marks.old) b
+        ≡ (is_marked rows.old (a * length marks.old) b ||
+        ((seen.now.scope == scope) && ((a == seen.now.node) && is_marked marks.new 0 b))) }
 {
     if seen.scope as u32 == scope {
         meet(seen.node as u32, marks, count, rows);
@@ -47,7 +53,10 @@ fn collect_scope(
     requires entries { AreBelow count entries.now }
     requires width { count ≤ 64 * width }
     requires rows { length rows.old ≡ count * width }
-    ensures { OnOk result ((a b : ℕ) → a < count → b < count → is_marked rows.new (a * width) b ≡ (is_marked rows.old (a * width) b || paired_in (λ t. t == scope) a b entries.now)) }
+    ensures { OnOk result
+        ((a b : ℕ) → a < count → b < count
+        → is_marked rows.new (a * width) b
+        ≡ (is_marked rows.old (a * width) b || paired_in (λ t. t == scope) a b entries.now)) }
 {
     let mut marks = vec![in alloc; 0u64; width]?;
     for seen in entries {
@@ -68,7 +77,10 @@ pub fn collect_scopes(
     requires entries { AreBelow count entries.now }
     requires width { count ≤ 64 * width }
     requires rows { length rows.old ≡ count * width }
-    ensures { OnOk result ((a b : ℕ) → a < count → b < count → is_marked rows.new (a * width) b ≡ (is_marked rows.old (a * width) b || list_any (λ s. paired_in (λ t. t == s) a b entries.now) scopes.now)) }
+    ensures { OnOk result
+        ((a b : ℕ) → a < count → b < count
+        → is_marked rows.new (a * width) b
+        ≡ (is_marked rows.old (a * width) b || list_any (λ s. paired_in (λ t. t == s) a b entries.now) scopes.now)) }
 {
     for scope in scopes {
         collect_scope(alloc, entries, *scope, width, count, rows)?;

@@ -20,7 +20,10 @@ fn add_headed(
     ended: &mut Vec<u32>,
 ) -> Result<(), AllocError>
     requires { scope < length outline.now.scopes }
-    ensures { OnOk result ((t : ℕ) → list_any (λ s. t == s) ended.new.items ≡ (list_any (λ s. t == s) ended.old.items || ((t == scope) && (header_of outline.now.scopes scope == node)))) }
+    ensures { OnOk result
+        ((t : ℕ)
+        → list_any (λ s. t == s) ended.new.items
+        ≡ (list_any (λ s. t == s) ended.old.items || ((t == scope) && (header_of outline.now.scopes scope == node)))) }
 {
     if outline.scope(scope).header == node {
         ended.push(scope)?;
@@ -36,7 +39,11 @@ fn add_all_headed(
     ended: &mut Vec<u32>,
 ) -> Result<(), AllocError>
     requires from { from < length outline.now.nodes }
-    ensures { OnOk result ((t : ℕ) → list_any (λ s. t == s) ended.new.items ≡ (list_any (λ s. t == s) ended.old.items || (is_held (shape_of outline.now) t from && (header_of outline.now.scopes t == to)))) }
+    ensures { OnOk result
+        ((t : ℕ)
+        → list_any (λ s. t == s) ended.new.items
+        ≡ (list_any (λ s. t == s) ended.old.items ||
+        (is_held (shape_of outline.now) t from && (header_of outline.now.scopes t == to)))) }
 {
     outline.kept();
     let mut scope = outline.node(from).scope;
@@ -60,7 +67,8 @@ pub fn ended_scopes(
 ) -> Result<Vec<u32>, AllocError>
     requires from { from < length outline.now.nodes }
     requires to { to < length outline.now.nodes }
-    ensures { IfOk result (λ ended. (t : ℕ) → list_any (λ s. t == s) ended.items ≡ ends (shape_of outline.now) t from to) }
+    ensures { IfOk result
+        (λ ended. (t : ℕ) → list_any (λ s. t == s) ended.items ≡ ends (shape_of outline.now) t from to) }
 {
     let mut ended = left_scopes(alloc, outline, from, to)?;
     add_all_headed(outline, from, to, &mut ended)?;
@@ -71,7 +79,8 @@ pub fn ended_scopes(
 fn add_owned(owned: &[u64], scopes: usize, scope: u32, marks: &mut [u64])
     requires scope { scope < scopes }
     requires owned { length owned.now ≡ scopes * length marks.old }
-    ensures { (b : ℕ) → b < 64 * length marks.old → is_marked marks.new 0 b ≡ (is_marked marks.old 0 b || is_marked owned.now (scope * length marks.old) b) }
+    ensures { (b : ℕ) → b < 64 * length marks.old
+        → is_marked marks.new 0 b ≡ (is_marked marks.old 0 b || is_marked owned.now (scope * length marks.old) b) }
 {
     let width = marks.len();
     add_words(marks, 0, owned, scope as usize * width, width);
@@ -81,7 +90,9 @@ fn add_owned(owned: &[u64], scopes: usize, scope: u32, marks: &mut [u64])
 fn add_all_owned(owned: &[u64], count: usize, scopes: &[u32], marks: &mut [u64])
     requires scopes { All (λ s. s < count) scopes.now }
     requires owned { length owned.now ≡ count * length marks.old }
-    ensures { (b : ℕ) → b < 64 * length marks.old → is_marked marks.new 0 b ≡ (is_marked marks.old 0 b || list_any (λ s. is_marked owned.now (s * length marks.old) b) scopes.now) }
+    ensures { (b : ℕ) → b < 64 * length marks.old
+        → is_marked marks.new 0 b
+        ≡ (is_marked marks.old 0 b || list_any (λ s. is_marked owned.now (s * length marks.old) b) scopes.now) }
 {
     for scope in scopes {
         add_owned(owned, count, *scope, marks);
@@ -102,9 +113,12 @@ pub fn ended_nodes(
     requires ended { (t : ℕ) → list_any (λ s. t == s) ended.now ≡ ends (shape_of outline.now) t from to }
     requires length { length owned.now ≡ length outline.now.scopes * width }
     requires width { length outline.now.nodes ≤ 64 * width }
-    requires owned { AreOwned (shape_of outline.now) (length outline.now.scopes) (length outline.now.nodes) width owned.now }
+    requires owned { AreOwned (shape_of outline.now) (length outline.now.scopes) (length outline.now.nodes) width
+        owned.now }
     ensures length { IfOk result (λ marks. length marks.items ≡ width) }
-    ensures ended { IfOk result (λ marks. (a : ℕ) → a < length outline.now.nodes → is_marked marks.items 0 a ≡ ends (shape_of outline.now) (own_of (shape_of outline.now) a) from to) }
+    ensures ended { IfOk result
+        (λ marks. (a : ℕ) → a < length outline.now.nodes
+        → is_marked marks.items 0 a ≡ ends (shape_of outline.now) (own_of (shape_of outline.now) a) from to) }
 {
     outline.kept();
     let mut marks = vec![in alloc; 0u64; width]?;

@@ -44,7 +44,8 @@ pub fn leave_scopes(entries: &mut Vec<Seen>, scopes: &[u32])
 /// Adds the scope where it is not among them.
 fn add_scope(scopes: &mut Vec<u32>, seen: &Seen) -> Result<(), AllocError>
     ensures added { OnOk result (list_any (λ s. seen.now.scope == s) scopes.new.items ≡ true) }
-    ensures kept { OnOk result ((t : ℕ) → list_any (λ s. t == s) scopes.old.items ≡ true → list_any (λ s. t == s) scopes.new.items ≡ true) }
+    ensures kept { OnOk result
+        ((t : ℕ) → list_any (λ s. t == s) scopes.old.items ≡ true → list_any (λ s. t == s) scopes.new.items ≡ true) }
 {
     if !is_within(seen, scopes) {
         scopes.push(seen.scope as u32)?;

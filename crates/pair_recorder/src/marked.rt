@@ -11,7 +11,8 @@ pub fn add_marked(into: &mut [u64], from: &[u64], marks: &[u64], count: usize)
     requires few { length marks.now < 2 ^ 32 }
     requires into { length into.old ≡ count * length marks.now }
     requires from { length from.now ≡ count * length marks.now }
-    ensures { AreRows count (length marks.now) marks.now (λ i. bit_or (slice_index into.old i) (slice_index from.now i)) into.old into.new }
+    ensures { AreRows count (length marks.now) marks.now (λ i. bit_or (slice_index into.old i) (slice_index from.now i))
+        into.old into.new }
 {
     let width = marks.len();
     let mut place = next_mark(marks, 0);

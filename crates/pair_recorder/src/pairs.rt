@@ -145,9 +145,15 @@ fn step(
     requires count { count_of form.old ≡ length outline.now.nodes }
     requires rows { length rows.old ≡ length outline.now.nodes * words_for (length outline.now.nodes) }
     requires owned_length { length owned.now ≡ length outline.now.scopes * words_for (length outline.now.nodes) }
-    requires owned { AreOwned (shape_of outline.now) (length outline.now.scopes) (length outline.now.nodes) (words_for (length outline.now.nodes)) owned.now }
-    ensures gone { OnOk result ((b : PairBook) → sighted form.new ≡ pair_recording.gone outline.now (sighted form.old) b from to) }
-    ensures collected { OnOk result ((s : ℕ) → pair_book (length outline.now.nodes) s owned.now rows.new ≡ pair_recording.gone_book outline.now (sighted form.old) (pair_book (length outline.now.nodes) s owned.now rows.old) from to) }
+    requires owned { AreOwned (shape_of outline.now) (length outline.now.scopes) (length outline.now.nodes)
+        (words_for (length outline.now.nodes)) owned.now }
+    ensures gone { OnOk result
+        ((b : PairBook) → sighted form.new ≡ pair_recording.gone outline.now (sighted form.old) b from to) }
+    ensures collected { OnOk result
+        ((s : ℕ)
+        → pair_book (length outline.now.nodes) s owned.now rows.new
+        ≡ pair_recording.gone_book outline.now (sighted form.old)
+        (pair_book (length outline.now.nodes) s owned.now rows.old) from to) }
     ensures kept { IsKept form.new }
 {
     match form {
@@ -170,7 +176,10 @@ fn step(
 fn collect(alloc: Global, form: &Form, rows: &mut [u64]) -> Result<(), AllocError>
     requires kept { IsKept form.now }
     requires rows { length rows.old ≡ count_of form.now * words_for (count_of form.now) }
-    ensures { OnOk result ((o : Outlined) (s k : ℕ) (owned : List ℕ) → count_of form.now ≡ length o.nodes → pair_book (count_of form.now) s owned rows.new ≡ pair_recording.finished o (sighted form.now) (pair_book (count_of form.now) s owned rows.old) k) }
+    ensures { OnOk result
+        ((o : Outlined) (s k : ℕ) (owned : List ℕ) → count_of form.now ≡ length o.nodes
+        → pair_book (count_of form.now) s owned rows.new
+        ≡ pair_recording.finished o (sighted form.now) (pair_book (count_of form.now) s owned rows.old) k) }
 {
     match form {
         Form::Path(count, path) => path_finish(alloc, *count, path, rows),

@@ -20,7 +20,8 @@ use std::alloc::{AllocError, Global};
 /// The path of node 0 alone.
 pub fn path_begun(alloc: Global, outline: &Outline) -> Result<Vec<Seen>, AllocError>
     requires { IsSmall outline.now }
-    ensures path { IfOk result (λ path. path_sightings (length outline.now.nodes) path.items ≡ pair_recording.first outline.now) }
+    ensures path { IfOk result
+        (λ path. path_sightings (length outline.now.nodes) path.items ≡ pair_recording.first outline.now) }
     ensures below { IfOk result (λ path. AreBelow (length outline.now.nodes) path.items) }
 {
     outline.kept();
@@ -63,8 +64,13 @@ fn leave(
 ) -> Result<(), AllocError>
     requires path { AreBelow count path.old.items }
     requires rows { length rows.old ≡ count * words_for count }
-    ensures kept { OnOk result (path.new.items ≡ filter (λ e. not (list_any (λ s. e.scope == s) scopes.now)) path.old.items) }
-    ensures rows { OnOk result ((a b : ℕ) → a < count → b < count → is_marked rows.new (a * words_for count) b ≡ (is_marked rows.old (a * words_for count) b || list_any (λ s. paired_in (λ t. t == s) a b path.old.items) scopes.now)) }
+    ensures kept { OnOk result
+        (path.new.items ≡ filter (λ e. not (list_any (λ s. e.scope == s) scopes.now)) path.old.items) }
+    ensures rows { OnOk result
+        ((a b : ℕ) → a < count → b < count
+        → is_marked rows.new (a * words_for count) b
+        ≡ (is_marked rows.old (a * words_for count) b || list_any (λ s. paired_in (λ t. t == s) a b path.old.items)
+        scopes.now)) }
     ensures below { AreBelow count path.new.items }
 {
     if scopes.is_empty() {
@@ -91,8 +97,15 @@ pub fn path_goes(
     requires path { AreBelow (length outline.now.nodes) path.old.items }
     requires own { AreOwn (shape_of outline.now) path.old.items }
     requires collected { length collected.old ≡ length outline.now.nodes * words_for (length outline.now.nodes) }
-    ensures gone { OnOk result ((b : PairBook) → path_sightings (length outline.now.nodes) path.new.items ≡ pair_recording.gone outline.now (path_sightings (length outline.now.nodes) path.old.items) b from to) }
-    ensures collected { OnOk result ((s : ℕ) (owned : List ℕ) → pair_book (length outline.now.nodes) s owned collected.new ≡ pair_recording.gone_book outline.now (path_sightings (length outline.now.nodes) path.old.items) (pair_book (length outline.now.nodes) s owned collected.old) from to) }
+    ensures gone { OnOk result
+        ((b : PairBook)
+        → path_sightings (length outline.now.nodes) path.new.items
+        ≡ pair_recording.gone outline.now (path_sightings (length outline.now.nodes) path.old.items) b from to) }
+    ensures collected { OnOk result
+        ((s : ℕ) (owned : List ℕ)
+        → pair_book (length outline.now.nodes) s owned collected.new
+        ≡ pair_recording.gone_book outline.now (path_sightings (length outline.now.nodes) path.old.items)
+        (pair_book (length outline.now.nodes) s owned collected.old) from to) }
     ensures below { AreBelow (length outline.now.nodes) path.new.items }
 {
     let count = outline.node_count();
@@ -111,7 +124,10 @@ pub fn path_finish(
 ) -> Result<(), AllocError>
     requires path { AreBelow count path.now }
     requires collected { length collected.old ≡ count * words_for count }
-    ensures { OnOk result ((o : Outlined) (s k : ℕ) (owned : List ℕ) → count ≡ length o.nodes → pair_book count s owned collected.new ≡ pair_recording.finished o (path_sightings count path.now) (pair_book count s owned collected.old) k) }
+    ensures { OnOk result
+        ((o : Outlined) (s k : ℕ) (owned : List ℕ) → count ≡ length o.nodes
+        → pair_book count s owned collected.new
+        ≡ pair_recording.finished o (path_sightings count path.now) (pair_book count s owned collected.old) k) }
 {
     let width = words(count);
     let scopes = scopes_of(alloc, path)?;

@@ -30,10 +30,15 @@ pub fn leave(
     requires rows { length rows.old ≡ length outline.now.nodes * length seen.old }
     requires book { length book.old ≡ length outline.now.nodes * length seen.old }
     requires owned_length { length owned.now ≡ length outline.now.scopes * length seen.old }
-    requires owned { AreOwned (shape_of outline.now) (length outline.now.scopes) (length outline.now.nodes) (length seen.old) owned.now }
+    requires owned { AreOwned (shape_of outline.now) (length outline.now.scopes) (length outline.now.nodes)
+        (length seen.old) owned.now }
     ensures seen { OnOk result (AreLeft (shape_of outline.now) (length outline.now.nodes) from to seen.old seen.new) }
-    ensures rows { OnOk result (AreLeftRows (shape_of outline.now) (length outline.now.nodes) (length seen.old) from to seen.old rows.old rows.new) }
-    ensures book { OnOk result (AreCollectedRows (shape_of outline.now) (length outline.now.nodes) (length seen.old) from to seen.old rows.old book.old book.new) }
+    ensures rows { OnOk result
+        (AreLeftRows (shape_of outline.now) (length outline.now.nodes) (length seen.old) from to seen.old rows.old
+        rows.new) }
+    ensures book { OnOk result
+        (AreCollectedRows (shape_of outline.now) (length outline.now.nodes) (length seen.old) from to seen.old rows.old
+        book.old book.new) }
 {
     let ended = ended_scopes(alloc, outline, from, to)?;
     if ended.is_empty() {
@@ -61,9 +66,12 @@ pub fn enter(
     requires seen { length outline.now.nodes ≤ 64 * length seen.old }
     requires rows { length rows.old ≡ length outline.now.nodes * length seen.old }
     requires owned_length { length owned.now ≡ length outline.now.scopes * length seen.old }
-    requires owned { AreOwned (shape_of outline.now) (length outline.now.scopes) (length outline.now.nodes) (length seen.old) owned.now }
+    requires owned { AreOwned (shape_of outline.now) (length outline.now.scopes) (length outline.now.nodes)
+        (length seen.old) owned.now }
     ensures seen { OnOk result (AreEntered (length outline.now.nodes) node seen.old seen.new) }
-    ensures rows { OnOk result (AreEnteredRows (shape_of outline.now) (length outline.now.nodes) (length seen.old) node seen.new rows.old rows.new) }
+    ensures rows { OnOk result
+        (AreEnteredRows (shape_of outline.now) (length outline.now.nodes) (length seen.old) node seen.new rows.old
+        rows.new) }
 {
     let width = seen.len();
     let own = own_scope(outline, node);

@@ -23,7 +23,8 @@ pub fn own_scope(outline: &Outline, node: u32) -> u32
 pub fn both(alloc: Global, a: &[u64], b: &[u64]) -> Result<Vec<u64>, AllocError>
     requires { length a.now ≡ length b.now }
     ensures length { IfOk result (λ words. length words.items ≡ length a.now) }
-    ensures bits { IfOk result (λ words. (base n : ℕ) → is_marked words.items base n ≡ (is_marked a.now base n || is_marked b.now base n)) }
+    ensures bits { IfOk result
+        (λ words. (base n : ℕ) → is_marked words.items base n ≡ (is_marked a.now base n || is_marked b.now base n)) }
 {
     let mut words = Vec::from_slice(alloc, a)?;
     add_words(&mut words, 0, b, 0, a.len());
@@ -32,8 +33,11 @@ pub fn both(alloc: Global, a: &[u64], b: &[u64]) -> Result<Vec<u64>, AllocError>
 
 /// For each scope a row of the nodes that it is the own scope of.
 pub fn owned_bits(alloc: Global, outline: &Outline) -> Result<Vec<u64>, AllocError>
-    ensures length { IfOk result (λ words. length words.items ≡ length outline.now.scopes * words_for (length outline.now.nodes)) }
-    ensures owned { IfOk result (λ words. AreOwned (shape_of outline.now) (length outline.now.scopes) (length outline.now.nodes) (words_for (length outline.now.nodes)) words.items) }
+    ensures length { IfOk result
+        (λ words. length words.items ≡ length outline.now.scopes * words_for (length outline.now.nodes)) }
+    ensures owned { IfOk result
+        (λ words. AreOwned (shape_of outline.now) (length outline.now.scopes) (length outline.now.nodes)
+        (words_for (length outline.now.nodes)) words.items) }
 {
     outline.kept();
     let count = outline.node_count();

@@ -41,11 +41,13 @@ multiplier_count [] s d = refl
 multiplier_count (r ∷ rs) s d = ap (λ (n : ℕ). suc n) (multiplier_count rs (next_slack r.equation s) d)
 
 -- a multiplier for each row
-pub handed_count : (p : Program) (t : Tableau) (scale : ℤ) (y : List ℤ) → IsHanded p t scale y → length y ≡ length p.rows
+pub handed_count : (p : Program) (t : Tableau) (scale : ℤ) (y : List ℤ) → IsHanded p t scale y
+    → length y ≡ length p.rows
 handed_count p t scale y is = ap (λ (z : List ℤ). length z) is.multipliers ∙ multiplier_count p.rows (slacks_from p) t.objective
 
 -- they are those that are told
-pub system_duals : (s : System) (o : Outlined) (facts : List Fact) (n : ℕ) (scale : ℤ) (y : List ℤ) → s ≡ system_of o facts
+pub system_duals : (s : System) (o : Outlined) (facts : List Fact) (n : ℕ) (scale : ℤ) (y : List ℤ)
+    → s ≡ system_of o facts
     → IsHanded s.program (ended s.program s.openings n).tableau scale y → (scale, y) ≡ told_duals o facts n
 system_duals s o facts n scale y is handed =
     let end = ended s.program s.openings n in
@@ -53,7 +55,8 @@ system_duals s o facts n scale y is handed =
     ∙ ap (λ (z : System). duals_of z.program (ended z.program z.openings n)) is
 
 -- and they hold
-pub system_held : (s : System) (o : Outlined) (facts : List Fact) (t : Tableau) (scale : ℤ) (y : List ℤ) → s ≡ system_of o facts
+pub system_held : (s : System) (o : Outlined) (facts : List Fact) (t : Tableau) (scale : ℤ) (y : List ℤ)
+    → s ≡ system_of o facts
     → IsHanded s.program t scale y → pos 1 ≤ℤ scale → HoldFrom s.program scale y → AreHeld (system_of o facts).program scale y
 system_held s o facts t scale y is handed above hold =
     subst (λ (z : System). AreHeld z.program scale y) is (record { each = handed_count s.program t scale y handed; scaled = above; hold = hold })
@@ -61,11 +64,13 @@ system_held s o facts t scale y is handed above hold =
 -- ---- sizes
 
 -- the sum over the openings is not negative
-sum_above : (s : System) (o : Outlined) (facts : List Fact) → s ≡ system_of o facts → pos 0 ≤ℤ opening_worth s.program s.openings
+sum_above : (s : System) (o : Outlined) (facts : List Fact) → s ≡ system_of o facts
+    → pos 0 ≤ℤ opening_worth s.program s.openings
 sum_above s o facts is = subst (λ (z : System). pos 0 ≤ℤ opening_worth z.program z.openings) (sym is) (openings_above o facts)
 
 -- the bound is at most that sum
-pub value_most : (s : System) (o : Outlined) (facts : List Fact) (scale : ℤ) (y : List ℤ) → s ≡ system_of o facts → pos 1 ≤ℤ scale
+pub value_most : (s : System) (o : Outlined) (facts : List Fact) (scale : ℤ) (y : List ℤ) → s ≡ system_of o facts
+    → pos 1 ≤ℤ scale
     → dual_sum s.program y ≤ℤ (opening_worth s.program s.openings *ℤ scale) → pos (floor_of (dual_sum s.program y) scale) ≤ℤ opening_sum o facts
 value_most s o facts scale y is above most =
     subst (λ (z : System). pos (floor_of (dual_sum s.program y) scale) ≤ℤ opening_worth z.program z.openings) is
@@ -75,14 +80,16 @@ below : (v : ℕ) (w : ℤ) → pos v ≤ℤ w → w <ℤ pos (2 ^ 64) → v < 2
 below v w most less = omega (arith, ints, most, less)
 
 -- and so fits 64 bits
-pub value_fits : (s : System) (o : Outlined) (facts : List Fact) (scale : ℤ) (y : List ℤ) → s ≡ system_of o facts → pos 1 ≤ℤ scale
+pub value_fits : (s : System) (o : Outlined) (facts : List Fact) (scale : ℤ) (y : List ℤ) → s ≡ system_of o facts
+    → pos 1 ≤ℤ scale
     → dual_sum s.program y ≤ℤ (opening_worth s.program s.openings *ℤ scale) → opening_sum o facts <ℤ pos (2 ^ 64) → floor_of (dual_sum s.program y) scale < 2 ^ 64
 value_fits s o facts scale y is above most room = below (floor_of (dual_sum s.program y) scale) (opening_sum o facts) (value_most s o facts scale y is above most) room
 
 -- ---- points
 
 -- what bounds each point of the rows
-pub system_bounds : (s : System) (o : Outlined) (facts : List Fact) (v : ℕ) → s ≡ system_of o facts → BoundsAll s.program v v → BoundsAll (system_of o facts).program v v
+pub system_bounds : (s : System) (o : Outlined) (facts : List Fact) (v : ℕ) → s ≡ system_of o facts
+    → BoundsAll s.program v v → BoundsAll (system_of o facts).program v v
 system_bounds s o facts v is bounds = subst (λ (z : System). BoundsAll z.program v v) is bounds
 
 pub greatest_of : (p : Program) (scale : ℤ) (y : List ℤ) (point : List (ℤ × ℤ)) (v : ℕ) → IsProgram p → IsDual p scale y
@@ -99,7 +106,8 @@ greatest_of p scale y point v is dual value optimal =
           dual.above whole optimal.cost (weak_duality p scale y x w is dual meets);
     }
 
-by_end : (p : Program) (scale : ℤ) (y : List ℤ) (e : SolveEnd) (v : ℕ) → IsProgram p → IsDual p scale y → v ≡ floor_of (dual_sum p y) scale → word_at e ≡ BoundWord.Least
+by_end : (p : Program) (scale : ℤ) (y : List ℤ) (e : SolveEnd) (v : ℕ) → IsProgram p → IsDual p scale y
+    → v ≡ floor_of (dual_sum p y) scale → word_at e ≡ BoundWord.Least
     → OnLeast e (λ point. IsOptimal p scale y point) → IsGreatest p v
 by_end p scale y (SolveEnd.Least point) v is dual value least optimal = greatest_of p scale y point.items v is dual value optimal
 by_end p scale y (Wide k) v is dual value least optimal = absurd cc

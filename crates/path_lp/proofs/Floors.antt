@@ -46,7 +46,8 @@ above_one (pos (suc a)) (negsuc b) p q = absurd (omega (arith, ints))
 above_one (negsuc a) b p q = absurd (omega (arith, ints))
 
 -- what is left of the second fraction is to its whole as what is left of the first is to its scale
-left_over : (sum scale worth whole q r : ℤ) → scale *ℤ worth ≡ sum *ℤ whole → sum ≡ (q *ℤ scale) +ℤ r → scale *ℤ (worth -ℤ (q *ℤ whole)) ≡ whole *ℤ r
+left_over : (sum scale worth whole q r : ℤ) → scale *ℤ worth ≡ sum *ℤ whole → sum ≡ (q *ℤ scale) +ℤ r
+    → scale *ℤ (worth -ℤ (q *ℤ whole)) ≡ whole *ℤ r
 left_over sum scale worth whole q r same is =
     let apart = times_difference scale worth (q *ℤ whole) in
     let turned : sum *ℤ whole ≡ whole *ℤ sum = omega (arith, ints) in
@@ -56,7 +57,8 @@ left_over sum scale worth whole q r same is =
     let three : q *ℤ (whole *ℤ scale) ≡ q *ℤ (scale *ℤ whole) = ap (λ (z : ℤ). q *ℤ z) (let u : whole *ℤ scale ≡ scale *ℤ whole = omega (arith, ints) in u) in
     omega (arith, ints, apart, same, turned, cut, one, two, three)
 
-same_quotient : (sum worth : ℤ) (n m : ℕ) → pos (suc n) *ℤ worth ≡ sum *ℤ pos (suc m) → int_div_euclid worth (pos (suc m)) ≡ int_div_euclid sum (pos (suc n))
+same_quotient : (sum worth : ℤ) (n m : ℕ) → pos (suc n) *ℤ worth ≡ sum *ℤ pos (suc m)
+    → int_div_euclid worth (pos (suc m)) ≡ int_div_euclid sum (pos (suc n))
 same_quotient sum worth n m same =
     let q = int_div_euclid sum (pos (suc n)) in
     let r = int_rem_euclid sum (pos (suc n)) in
@@ -76,7 +78,8 @@ same_quotient sum worth n m same =
     (quotient_is worth q t (suc m) (omega arith) (omega (arith, ints)) low (omega (arith, ints, high))).0
 
 -- two fractions that are one have one quotient
-pub floor_same : (sum scale worth whole : ℤ) → pos 1 ≤ℤ scale → pos 1 ≤ℤ whole → scale *ℤ worth ≡ sum *ℤ whole → floor_of sum scale ≡ floor_of worth whole
+pub floor_same : (sum scale worth whole : ℤ) → pos 1 ≤ℤ scale → pos 1 ≤ℤ whole → scale *ℤ worth ≡ sum *ℤ whole
+    → floor_of sum scale ≡ floor_of worth whole
 floor_same sum (pos (suc n)) worth (pos (suc m)) one two same = ap (λ (q : ℤ). unsigned_abs (int_max (pos 0) q)) (sym (same_quotient sum worth n m same))
 floor_same sum (pos zero) worth whole one two same = absurd (omega (arith, ints, one))
 floor_same sum (negsuc n) worth whole one two same = absurd (omega (arith, ints, one))

@@ -33,7 +33,8 @@ held_end [] (suc k) past = refl
 held_end (h ∷ hs) zero past = absurd (omega arith)
 held_end (h ∷ hs) (suc k) past = held_end hs k (omega arith)
 
-pub fraction_here : (hs : List Held) (k j : ℕ) (f : ℤ × ℤ) → k < length hs → j ≡ (held_at hs k).basic → f ≡ (entry (held_at hs k).line 0, entry (held_at hs k).line j)
+pub fraction_here : (hs : List Held) (k j : ℕ) (f : ℤ × ℤ) → k < length hs → j ≡ (held_at hs k).basic
+    → f ≡ (entry (held_at hs k).line 0, entry (held_at hs k).line j)
     → fraction_of (drop k hs) j ≡ fraction_of hs j → f ≡ fraction_of hs j
 fraction_here hs k j f below same is so =
     let one : fraction_of (drop k hs) j ≡ fraction_of (held_at hs k ∷ drop (suc k) hs) j = ap (λ (l : List Held). fraction_of l j) (held_next hs k below) in
@@ -41,7 +42,8 @@ fraction_here hs k j f below same is so =
     let own : own_of (held_at hs k) ≡ entry (held_at hs k).line j = ap (λ (i : ℕ). entry (held_at hs k).line i) (sym same) in
     is ∙ ap (λ (z : ℤ). let x : ℤ × ℤ = (entry (held_at hs k).line 0, z) in x) (sym own) ∙ sym two ∙ sym one ∙ so
 
-pub fraction_more : (hs : List Held) (k j : ℕ) → k < length hs → (j ≡ (held_at hs k).basic → ⊥) → fraction_of (drop k hs) j ≡ fraction_of hs j
+pub fraction_more : (hs : List Held) (k j : ℕ) → k < length hs → (j ≡ (held_at hs k).basic → ⊥)
+    → fraction_of (drop k hs) j ≡ fraction_of hs j
     → fraction_of (drop (k + 1) hs) j ≡ fraction_of hs j
 fraction_more hs k j below other so =
     let one : fraction_of (drop k hs) j ≡ fraction_of (held_at hs k ∷ drop (suc k) hs) j = ap (λ (l : List Held). fraction_of l j) (held_next hs k below) in
@@ -55,7 +57,8 @@ grouped (x ∷ xs) ys zs = ap (λ (l : List (ℤ × ℤ)). x ∷ l) (grouped xs 
 next_fraction : (hs : List Held) (n j m : ℕ) → m ≡ suc n → fractions hs m j ≡ fraction_of hs j ∷ fractions hs n (suc j)
 next_fraction hs n j m same = ap (λ (k : ℕ). fractions hs k j) same
 
-pub fractions_more : (hs : List Held) (n k : ℕ) (out new all : List (ℤ × ℤ)) (f : ℤ × ℤ) → k < n → new ≡ out ++ (f ∷ []) → f ≡ fraction_of hs (k + 2)
+pub fractions_more : (hs : List Held) (n k : ℕ) (out new all : List (ℤ × ℤ)) (f : ℤ × ℤ) → k < n → new ≡ out ++ (f ∷ [])
+    → f ≡ fraction_of hs (k + 2)
     → out ++ fractions hs (n - k) (k + 2) ≡ all → new ++ fractions hs (n - (k + 1)) (k + 1 + 2) ≡ all
 fractions_more hs n k out new all f below made is so =
     let rest = fractions hs (n - (k + 1)) (suc (k + 2)) in
@@ -65,7 +68,8 @@ fractions_more hs n k out new all f below made is so =
 
 -- ---- the fractions are the parts of the tableau's point
 
-fraction_is : (hs : List Held) (scale value : ℤ) (j : ℕ) → 2 ≤ j → (fraction_of hs j).0 *ℤ basic_whole hs scale ≡ basic_number hs scale value j *ℤ (fraction_of hs j).1
+fraction_is : (hs : List Held) (scale value : ℤ) (j : ℕ) → 2 ≤ j
+    → (fraction_of hs j).0 *ℤ basic_whole hs scale ≡ basic_number hs scale value j *ℤ (fraction_of hs j).1
 fraction_is [] scale value zero least = absurd (omega arith)
 fraction_is [] scale value (suc zero) least = absurd (omega arith)
 fraction_is [] scale value (suc (suc j)) least = omega (arith, ints)
@@ -79,7 +83,8 @@ fraction_is (h ∷ hs) scale value j least = by_test (j == h.basic)
     ∙ ap (λ (z : ℤ). own_of h *ℤ z) (fraction_is hs scale value j least)
     ∙ sym (times_times (own_of h) (basic_number hs scale value j) (fraction_of hs j).1)))
 
-parts_are : (hs : List Held) (scale value : ℤ) (n j : ℕ) (x : ℕ → ℤ) → 2 ≤ j → ((e : ℕ) → x e ≡ basic_number hs scale value (j + e))
+parts_are : (hs : List Held) (scale value : ℤ) (n j : ℕ) (x : ℕ → ℤ) → 2 ≤ j
+    → ((e : ℕ) → x e ≡ basic_number hs scale value (j + e))
     → AreParts x (basic_whole hs scale) (fractions hs n j)
 parts_are hs scale value zero j x least are = tt
 parts_are hs scale value (suc n) j x least are =
@@ -89,7 +94,8 @@ parts_are hs scale value (suc n) j x least are =
           (λ e. are (suc e) ∙ ap (λ (i : ℕ). basic_number hs scale value i) (let q : j + suc e ≡ suc j + e = omega arith in q)),
     )
 
-fraction_good : (hs : List Held) (j : ℕ) → ((k : ℕ) → k < length hs → pos 0 ≤ℤ entry (held_at hs k).line 0) → ((k : ℕ) → k < length hs → pos 1 ≤ℤ own_of (held_at hs k))
+fraction_good : (hs : List Held) (j : ℕ) → ((k : ℕ) → k < length hs → pos 0 ≤ℤ entry (held_at hs k).line 0)
+    → ((k : ℕ) → k < length hs → pos 1 ≤ℤ own_of (held_at hs k))
     → (pos 0 ≤ℤ (fraction_of hs j).0) × (pos 1 ≤ℤ (fraction_of hs j).1)
 fraction_good [] j rights owns = (omega (arith, ints), omega (arith, ints))
 fraction_good (h ∷ hs) j rights owns = by_test (j == h.basic)
@@ -108,11 +114,13 @@ fractions_count : (hs : List Held) (n j : ℕ) → length (fractions hs n j) ≡
 fractions_count hs zero j = refl
 fractions_count hs (suc n) j = ap suc (fractions_count hs n (suc j))
 
-no_row : (t : Tableau) (o : Option ℕ) → o ≡ None → IsLeaving t (length t.rows) o → (k : ℕ) → k < length t.rows → pos 0 ≤ℤ number_at t k 0
+no_row : (t : Tableau) (o : Option ℕ) → o ≡ None → IsLeaving t (length t.rows) o → (k : ℕ) → k < length t.rows
+    → pos 0 ≤ℤ number_at t k 0
 no_row t None none is = is
 no_row t (Some r) none is = absurd cc
 
-pub read_off : (p : Program) (s : Seen) (point : List (ℤ × ℤ)) → Stands p s → leaving s.tableau ≡ None → point ≡ fractions s.tableau.rows (length p.costs) 2
+pub read_off : (p : Program) (s : Seen) (point : List (ℤ × ℤ)) → Stands p s → leaving s.tableau ≡ None
+    → point ≡ fractions s.tableau.rows (length p.costs) 2
     → IsReadOff p s.tableau point
 read_off p s point stands none made =
     let t = s.tableau in

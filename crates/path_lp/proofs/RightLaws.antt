@@ -45,7 +45,8 @@ use Rattle.path_lp.proofs.BoundLaws.{greatest_of}
 
 -- ---- the rows of an outline
 
-rows_within : (columns : List Column) (ws : List Weighing) (k : ℕ) → IsWithin (length columns) (row_at (map (λ w. row_of columns w) ws) k).terms
+rows_within : (columns : List Column) (ws : List Weighing) (k : ℕ)
+    → IsWithin (length columns) (row_at (map (λ w. row_of columns w) ws) k).terms
 rows_within columns [] k = tt
 rows_within columns (w ∷ ws) zero = terms_within w.weight 0 (length columns) columns (omega arith)
 rows_within columns (w ∷ ws) (suc k) = rows_within columns ws k
@@ -59,7 +60,8 @@ program_of_outline o facts =
 
 -- ---- a dual point
 
-floor_step : (sum q r : ℤ) (n : ℕ) → sum ≡ (q *ℤ pos n) +ℤ r → r <ℤ pos n → sum <ℤ (pos (suc (unsigned_abs (int_max (pos 0) q))) *ℤ pos n)
+floor_step : (sum q r : ℤ) (n : ℕ) → sum ≡ (q *ℤ pos n) +ℤ r → r <ℤ pos n
+    → sum <ℤ (pos (suc (unsigned_abs (int_max (pos 0) q))) *ℤ pos n)
 floor_step sum (pos q) r n e less =
     let m : int_max (pos 0) (pos q) ≡ pos q = omega (arith, ints, clamps) in
     rw m (omega (arith, ints, e, less, sum_times (pos q) (pos 1) (pos n)))
@@ -74,7 +76,8 @@ floor_next sum (pos (suc n)) above =
     floor_step sum (int_div_euclid sum (pos (suc n))) (int_rem_euclid sum (pos (suc n))) (suc n) (quotient_and_rest sum (suc n) (omega arith)) range.1
 
 -- so is what a point is worth
-worth_next : (scale value sum w : ℤ) (v : ℕ) → pos 1 ≤ℤ scale → pos 1 ≤ℤ w → (scale *ℤ value) ≤ℤ (sum *ℤ w) → sum <ℤ (pos (suc v) *ℤ scale) → value <ℤ (pos (suc v) *ℤ w)
+worth_next : (scale value sum w : ℤ) (v : ℕ) → pos 1 ≤ℤ scale → pos 1 ≤ℤ w → (scale *ℤ value) ≤ℤ (sum *ℤ w)
+    → sum <ℤ (pos (suc v) *ℤ scale) → value <ℤ (pos (suc v) *ℤ w)
 worth_next scale value sum w v above whole most less =
     let up = pos (suc v) in
     let one : ((sum +ℤ pos 1) *ℤ w) ≤ℤ ((up *ℤ scale) *ℤ w) = times_rising (sum +ℤ pos 1) (up *ℤ scale) w (omega (arith, ints, less)) (omega (arith, ints, whole)) in
@@ -86,7 +89,8 @@ worth_next scale value sum w v above whole most less =
     omega (arith, ints, six)
 
 -- a dual point bounds each point that meets the rows
-pub dual_bounds : (p : Program) (scale : ℤ) (y : List ℤ) → IsProgram p → IsDual p scale y → BoundsAll p (floor_of (dual_sum p y) scale) (floor_of (dual_sum p y) scale)
+pub dual_bounds : (p : Program) (scale : ℤ) (y : List ℤ) → IsProgram p → IsDual p scale y
+    → BoundsAll p (floor_of (dual_sum p y) scale) (floor_of (dual_sum p y) scale)
 dual_bounds p scale y is dual =
     let points : (x : ℕ → ℤ) (w : ℤ) → pos 1 ≤ℤ w → MeetsAll p x w → worth p x <ℤ (pos (suc (floor_of (dual_sum p y) scale)) *ℤ w) =
     λ x w whole meets. worth_next scale (worth p x) (dual_sum p y) w (floor_of (dual_sum p y) scale) dual.above whole (weak_duality p scale y x w is dual meets) (floor_next (dual_sum p y) scale dual.above) in
@@ -116,7 +120,8 @@ are_parts x w zero = tt
 are_parts x w (suc n) = (refl, are_parts (λ e. x (suc e)) w n)
 
 -- it can be read off
-read_off : (p : Program) (t : Tableau) → pos 1 ≤ℤ point_whole t → ((e : ℕ) → pos 0 ≤ℤ basic_point t e) → IsReadOff p t (fractions_of (basic_point t) (point_whole t) (length p.costs))
+read_off : (p : Program) (t : Tableau) → pos 1 ≤ℤ point_whole t → ((e : ℕ) → pos 0 ≤ℤ basic_point t e)
+    → IsReadOff p t (fractions_of (basic_point t) (point_whole t) (length p.costs))
 read_off p t whole above = record {
   is = record {
     columns = fraction_count (basic_point t) (point_whole t) (length p.costs);
@@ -138,7 +143,8 @@ module _ (answers : (p : Program) (os : List (ℕ × ℕ)) (n : ℕ) → IsProgr
     (most : (p : Program) (os : List (ℕ × ℕ)) (n : ℕ) → IsProgram p → OpensRows p os
     → dual_sum p (handed p (ended p os n).tableau)
     ≤ℤ (total (length os) (λ i. pos (cost_at p.costs (opening_at os i).1) *ℤ (row_at p.rows (opening_at os i).0).right) *ℤ entry (ended p os n).tableau.objective 1)) where
-  greatest_at : (p : Program) (os : List (ℕ × ℕ)) (n : ℕ) → IsProgram p → OpensRows p os → (ended p os n).end ≡ RunEnd.Least
+  greatest_at : (p : Program) (os : List (ℕ × ℕ)) (n : ℕ) → IsProgram p → OpensRows p os
+      → (ended p os n).end ≡ RunEnd.Least
       → IsGreatest p (floor_of (dual_sum p (handed p (ended p os n).tableau)) (entry (ended p os n).tableau.objective 1))
   greatest_at p os n is opens end =
       let x : Ended = ended p os n in
@@ -150,7 +156,8 @@ module _ (answers : (p : Program) (os : List (ℕ × ℕ)) (n : ℕ) → IsProgr
       (record { is = read.is; feasible = told.feasible; cost = told.worth })
 
   -- the path bound is right
-  pub right_at : (o : Outlined) (facts : List Fact) (n : ℕ) → OpensRows (system_of o facts).program (system_of o facts).openings
+  pub right_at : (o : Outlined) (facts : List Fact) (n : ℕ)
+      → OpensRows (system_of o facts).program (system_of o facts).openings
       → ((v : ℕ) → BoundsAll (system_of o facts).program v v → (fault : Bool) (k : ℕ) (past : List ℕ) → IsEnded (shape_of o) facts fault (k ∷ past) → FitOutline (shape_of o) facts
       → MeetFacts (shape_of o) (reverse (k ∷ past)) facts → run_cost (costs_of o) (k ∷ past) ≤ v)
       → IsRight o facts n

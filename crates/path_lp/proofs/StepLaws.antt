@@ -29,32 +29,38 @@ answer_none row d n none = by_test (entering_wide row d n)
     (λ wide. wide)
     (λ narrow. absurd (none-some (entering row d n) (sym none ∙ (let e : entering_answer row d n ≡ Some (entering row d n) = rw narrow refl in e))))
 
-answer_some : (row d : List ℤ) (n : ℕ) (o : Option ℕ) → entering_answer row d n ≡ Some o → (entering_wide row d n ≡ false) × (entering row d n ≡ o)
+answer_some : (row d : List ℤ) (n : ℕ) (o : Option ℕ) → entering_answer row d n ≡ Some o
+    → (entering_wide row d n ≡ false) × (entering row d n ≡ o)
 answer_some row d n o some = by_test (entering_wide row d n)
     (λ wide. absurd (none-some o ((let e : None ≡ entering_answer row d n = rw wide refl in e) ∙ some)))
     (λ narrow. (narrow, same_Some (entering row d n) o ((let e : Some (entering row d n) ≡ entering_answer row d n = rw narrow refl in e) ∙ some)))
 
-in_width : (p : Program) (s : Seen) (row d : List ℤ) → Stands p s → entering_answer row d (s.width - 2) ≡ entering_answer row d (variables_of p)
+in_width : (p : Program) (s : Seen) (row d : List ℤ) → Stands p s
+    → entering_answer row d (s.width - 2) ≡ entering_answer row d (variables_of p)
 in_width p s row d stands = ap (λ (w : ℕ). entering_answer row d (w - 2)) stands.width
 
-pub choice_too_wide : (p : Program) (r : ℕ) (s : Seen) → Stands p s → None ≡ entering_answer (held_at s.tableau.rows r).line s.tableau.objective (s.width - 2)
+pub choice_too_wide : (p : Program) (r : ℕ) (s : Seen) → Stands p s
+    → None ≡ entering_answer (held_at s.tableau.rows r).line s.tableau.objective (s.width - 2)
     → stepped p r s.tableau ≡ None
 choice_too_wide p r s stands none =
     let row = (held_at s.tableau.rows r).line in
     rw (answer_none row s.tableau.objective (variables_of p) (sym (none ∙ in_width p s row s.tableau.objective stands))) refl
 
-step_is : (p : Program) (r : ℕ) (t : Tableau) (o : Option ℕ) → entering_answer (held_at t.rows r).line t.objective (variables_of p) ≡ Some o
+step_is : (p : Program) (r : ℕ) (t : Tableau) (o : Option ℕ)
+    → entering_answer (held_at t.rows r).line t.objective (variables_of p) ≡ Some o
     → stepped p r t ≡ stepped_to p r t o
 step_is p r t o some =
     let both = answer_some (held_at t.rows r).line t.objective (variables_of p) o some in
     let one : stepped p r t ≡ stepped_to p r t (entering (held_at t.rows r).line t.objective (variables_of p)) = rw both.0 refl in
     one ∙ ap (λ (x : Option ℕ). stepped_to p r t x) both.1
 
-step_of : (p : Program) (r : ℕ) (s : Seen) (o : Option ℕ) → Stands p s → Some o ≡ entering_answer (held_at s.tableau.rows r).line s.tableau.objective (s.width - 2)
+step_of : (p : Program) (r : ℕ) (s : Seen) (o : Option ℕ) → Stands p s
+    → Some o ≡ entering_answer (held_at s.tableau.rows r).line s.tableau.objective (s.width - 2)
     → stepped p r s.tableau ≡ stepped_to p r s.tableau o
 step_of p r s o stands some = step_is p r s.tableau o (sym (some ∙ in_width p s (held_at s.tableau.rows r).line s.tableau.objective stands))
 
-pub nothing_enters : (p : Program) (r : ℕ) (s : Seen) → Stands p s → Some None ≡ entering_answer (held_at s.tableau.rows r).line s.tableau.objective (s.width - 2)
+pub nothing_enters : (p : Program) (r : ℕ) (s : Seen) → Stands p s
+    → Some None ≡ entering_answer (held_at s.tableau.rows r).line s.tableau.objective (s.width - 2)
     → stepped p r s.tableau ≡ None
 nothing_enters p r s stands none = step_of p r s None stands none
 
@@ -62,14 +68,16 @@ entering_at : (row d : List ℤ) (n e : ℕ) (o : Option ℕ) → o ≡ Some e �
 entering_at row d n e None some is = absurd (none-some e some)
 entering_at row d n e (Some c) some is = subst (λ (x : ℕ). IsEntering row d n x) (same_Some c e some) is
 
-enters : (p : Program) (r e : ℕ) (s : Seen) → Stands p s → entering_answer (held_at s.tableau.rows r).line s.tableau.objective (s.width - 2) ≡ Some (Some e)
+enters : (p : Program) (r e : ℕ) (s : Seen) → Stands p s
+    → entering_answer (held_at s.tableau.rows r).line s.tableau.objective (s.width - 2) ≡ Some (Some e)
     → IsEntering (held_at s.tableau.rows r).line s.tableau.objective (variables_of p) e
 enters p r e s stands some =
     let row = (held_at s.tableau.rows r).line in
     let both = answer_some row s.tableau.objective (variables_of p) (Some e) (sym (in_width p s row s.tableau.objective stands) ∙ some) in
     entering_at row s.tableau.objective (variables_of p) e (entering row s.tableau.objective (variables_of p)) both.1 (entering_is row s.tableau.objective (variables_of p))
 
-pub place_below : (p : Program) (r e : ℕ) (s : Seen) → Stands p s → entering_answer (held_at s.tableau.rows r).line s.tableau.objective (s.width - 2) ≡ Some (Some e)
+pub place_below : (p : Program) (r e : ℕ) (s : Seen) → Stands p s
+    → entering_answer (held_at s.tableau.rows r).line s.tableau.objective (s.width - 2) ≡ Some (Some e)
     → number_at s.tableau r e <ℤ pos 0
 place_below p r e s stands some = (enters p r e s stands some).below
 
@@ -99,12 +107,14 @@ wide_step p r e t wide =
     or_left (line_wide h || rows_wide r e h t.rows || cleared_wide e h t.objective) (handed_wide p (pivoted (neg_ℤ (pos 1)) r e t))
     (any_of (line_wide h) (rows_wide r e h t.rows) (cleared_wide e h t.objective) wide)
 
-wide_handed : (p : Program) (r e : ℕ) (t : Tableau) → handed_wide p (pivoted (neg_ℤ (pos 1)) r e t) ≡ true → pivot_wide p r e t ≡ true
+wide_handed : (p : Program) (r e : ℕ) (t : Tableau) → handed_wide p (pivoted (neg_ℤ (pos 1)) r e t) ≡ true
+    → pivot_wide p r e t ≡ true
 wide_handed p r e t wide =
     let h = times_line (neg_ℤ (pos 1)) (held_at t.rows r).line in
     or_right (line_wide h || rows_wide r e h t.rows || cleared_wide e h t.objective) (handed_wide p (pivoted (neg_ℤ (pos 1)) r e t)) wide
 
-narrow_both : (p : Program) (r e : ℕ) (t : Tableau) → step_wide r e t ≡ false → handed_wide p (pivoted (neg_ℤ (pos 1)) r e t) ≡ false → pivot_wide p r e t ≡ false
+narrow_both : (p : Program) (r e : ℕ) (t : Tableau) → step_wide r e t ≡ false
+    → handed_wide p (pivoted (neg_ℤ (pos 1)) r e t) ≡ false → pivot_wide p r e t ≡ false
 narrow_both p r e t narrow test =
     let h = times_line (neg_ℤ (pos 1)) (held_at t.rows r).line in
     or_from (line_wide h || rows_wide r e h t.rows || cleared_wide e h t.objective) (handed_wide p (pivoted (neg_ℤ (pos 1)) r e t))
@@ -113,10 +123,12 @@ narrow_both p r e t narrow test =
 to_wide : (p : Program) (r e : ℕ) (t : Tableau) → pivot_wide p r e t ≡ true → stepped_to p r t (Some e) ≡ None
 to_wide p r e t wide = rw wide refl
 
-to_more : (p : Program) (r e : ℕ) (t : Tableau) → pivot_wide p r e t ≡ false → stepped_to p r t (Some e) ≡ Some (pivoted (neg_ℤ (pos 1)) r e t)
+to_more : (p : Program) (r e : ℕ) (t : Tableau) → pivot_wide p r e t ≡ false
+    → stepped_to p r t (Some e) ≡ Some (pivoted (neg_ℤ (pos 1)) r e t)
 to_more p r e t narrow = rw narrow refl
 
-pub pivot_too_wide : (p : Program) (r e : ℕ) (s : Seen) → Stands p s → entering_answer (held_at s.tableau.rows r).line s.tableau.objective (s.width - 2) ≡ Some (Some e)
+pub pivot_too_wide : (p : Program) (r e : ℕ) (s : Seen) → Stands p s
+    → entering_answer (held_at s.tableau.rows r).line s.tableau.objective (s.width - 2) ≡ Some (Some e)
     → step_wide r e s.tableau ≡ true → stepped p r s.tableau ≡ None
 pivot_too_wide p r e s stands some wide = step_of p r s (Some e) stands (sym some) ∙ to_wide p r e s.tableau (wide_step p r e s.tableau wide)
 
@@ -133,13 +145,16 @@ multipliers_count : (rs : List Row) (s : ℕ) (d : List ℤ) → length (multipl
 multipliers_count [] s d = refl
 multipliers_count (r ∷ rs) s d = ap suc (multipliers_count rs (next_slack r.equation s) d)
 
-pub handed_count : (p : Program) (t : Tableau) (scale : ℤ) (y : List ℤ) → IsHanded p t scale y → length y ≡ length p.rows
+pub handed_count : (p : Program) (t : Tableau) (scale : ℤ) (y : List ℤ) → IsHanded p t scale y
+    → length y ≡ length p.rows
 handed_count p t scale y is = ap length is.multipliers ∙ multipliers_count p.rows (slacks_from p) t.objective
 
-pub handed_scale : (p : Program) (s : Seen) (scale : ℤ) (y : List ℤ) → Stands p s → IsHanded p s.tableau scale y → pos 0 <ℤ scale
+pub handed_scale : (p : Program) (s : Seen) (scale : ℤ) (y : List ℤ) → Stands p s → IsHanded p s.tableau scale y
+    → pos 0 <ℤ scale
 handed_scale p s scale y stands is = omega (arith, ints, is.scale_is, stands.right.sound.scale)
 
-test_is : (p : Program) (t : Tableau) (scale : ℤ) (y : List ℤ) → IsHanded p t scale y → is_wide (verdict p scale y 0) ≡ handed_wide p t
+test_is : (p : Program) (t : Tableau) (scale : ℤ) (y : List ℤ) → IsHanded p t scale y
+    → is_wide (verdict p scale y 0) ≡ handed_wide p t
 test_is p t scale y is = ap (λ (z : ℤ). is_wide (verdict p z y 0)) is.scale_is ∙ ap (λ (l : List ℤ). is_wide (verdict p (entry t.objective 1) l 0)) is.multipliers
 
 pub handed_too_wide : (p : Program) (r e : ℕ) (s new : Seen) (scale : ℤ) (y : List ℤ) → Stands p s

@@ -72,7 +72,8 @@ opening_sum o facts = opening_worth (system_of o facts).program (system_of o fac
 -- no point that meets the rows, and no run that meets the facts, passes the value
 pub record IsAbove (o : Outlined) (facts : List Fact) (v : ℕ) : Type 0 where
   pub points : BoundsAll (system_of o facts).program v v
-  pub runs : (fault : Bool) (k : ℕ) (past : List ℕ) → IsEnded (shape_of o) facts fault (k ∷ past) → FitOutline (shape_of o) facts
+  pub runs : (fault : Bool) (k : ℕ) (past : List ℕ) → IsEnded (shape_of o) facts fault (k ∷ past)
+      → FitOutline (shape_of o) facts
       → MeetFacts (shape_of o) (reverse (k ∷ past)) facts → run_cost (costs_of o) (k ∷ past) ≤ v
 
 -- the value is the greatest worth of a point that meets the rows, rounded down
@@ -81,4 +82,5 @@ pub record IsGreatest (p : Program) (v : ℕ) : Type 0 where
   pub is : IsPoint p point
   pub feasible : IsFeasible p point
   pub floor : v ≡ floor_of (worth p (part_of point)) (whole_of point)
-  pub greatest : (x : ℕ → ℤ) (w : ℤ) → pos 1 ≤ℤ w → MeetsAll p x w → (worth p x *ℤ whole_of point) ≤ℤ (worth p (part_of point) *ℤ w)
+  pub greatest : (x : ℕ → ℤ) (w : ℤ) → pos 1 ≤ℤ w → MeetsAll p x w
+      → (worth p x *ℤ whole_of point) ≤ℤ (worth p (part_of point) *ℤ w)

@@ -69,7 +69,8 @@ module _ (o : Shape) (P : Constraint → Type 0) where
   of_group Counts (Alarm n why) parts = none
 
   -- then of all constraints
-  pub all_constraints : (facts : List Fact) → ((n : ℕ) → P (Flow n)) → ((f : Fact) → Contains facts f → PartsHold o P f) → All P (constraints_of o facts)
+  pub all_constraints : (facts : List Fact) → ((n : ℕ) → P (Flow n)) → ((f : Fact) → Contains facts f → PartsHold o P f)
+      → All P (constraints_of o facts)
   all_constraints facts flows parts =
       let of_all : (g : Group) → All P (flat_map (λ f. group_of o g f) facts) = λ g. all_joined P (λ f. group_of o g f) facts (λ f there. of_group g f (parts f there)) in
       All-append P (map (λ n. Flow n) (nodes_of o)) _ (all_images P (λ n. Flow n) (nodes_of o) (λ n there. flows n))

@@ -9,12 +9,13 @@ use Rattle.dual_check.specs.Openings.{system_of}
 use Rattle.simplex_rules.specs.OutlineOpenings.{AreLimited}
 use Rattle.path_lp.specs.Bounding.{told_path_bound, opening_sum, IsAbove, IsGreatest}
 
--- after n pivots at most: no point that meets the rows and no run that meets the facts passes it, it is at most the sum over
--- the openings, and with `Least` it is the greatest worth of a point that meets the rows, rounded down
+-- after n pivots at most: no point that meets the rows and no run that meets the facts passes it, it is at most the sum
+-- over the openings, and with `Least` it is the greatest worth of a point that meets the rows, rounded down
 pub record IsRight (o : Outlined) (facts : List Fact) (n : ℕ) : Type 0 where
   pub above : IsAbove o facts (told_path_bound o facts n).0
   pub most : pos (told_path_bound o facts n).0 ≤ℤ opening_sum o facts
-  pub least : (told_path_bound o facts n).1 ≡ Least → IsGreatest (system_of o facts).program (told_path_bound o facts n).0
+  pub least : (told_path_bound o facts n).1 ≡ Least
+      → IsGreatest (system_of o facts).program (told_path_bound o facts n).0
 
 -- so it is where of each node some fact says how often a run leaves it at most
 abbrev pub ToldBoundsAreRight : Type 0

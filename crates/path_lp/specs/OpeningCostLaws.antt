@@ -39,7 +39,8 @@ IsLimit most (Least s header n low) = Unit {0}
 IsLimit most (Demand n low) = Unit {0}
 IsLimit most (Apart header a b) = Unit {0}
 
-limits_within : (o : Shape) (most : ℕ → ℕ) (facts : List Fact) → AreWithin most facts → All (IsLimit most) (constraints_of o facts)
+limits_within : (o : Shape) (most : ℕ → ℕ) (facts : List Fact) → AreWithin most facts
+    → All (IsLimit most) (constraints_of o facts)
 limits_within o most facts within = all_constraints o (IsLimit most) facts (λ n. tt) parts
   where
     parts : (f : Fact) → Contains facts f → PartsHold o (IsLimit most) f
@@ -67,7 +68,8 @@ limit_right o most m (Least s header n low) is within = absurd cc
 limit_right o most m (Demand n low) is within = absurd cc
 limit_right o most m (Apart header a b) is within = absurd cc
 
-row_found : (o : Shape) (columns : List Column) (most : ℕ → ℕ) (m b r : ℕ) (ks : List Constraint) → All (IsLimit most) ks
+row_found : (o : Shape) (columns : List Column) (most : ℕ → ℕ) (m b r : ℕ) (ks : List Constraint)
+    → All (IsLimit most) ks
     → place_of (λ k. is_limit_of m k) b ks ≡ Some r → IsRowOf o columns most m b r ks
 row_found o columns most m b r [] all found = absurd cc
 row_found o columns most m b r (k ∷ ks) all found = by_test (is_limit_of m k)
@@ -88,7 +90,8 @@ record IsColumnOf (costs : List ℕ) (m b e : ℕ) (columns : List Column) : Typ
   is : e ≡ b + later
   cost : cost_at (map (λ c. cost_of costs c) columns) later ≡ slice_index costs m
 
-column_found : (costs : List ℕ) (m b e : ℕ) (columns : List Column) → place_of (λ (c : Column). m == c.from) b columns ≡ Some e → IsColumnOf costs m b e columns
+column_found : (costs : List ℕ) (m b e : ℕ) (columns : List Column)
+    → place_of (λ (c : Column). m == c.from) b columns ≡ Some e → IsColumnOf costs m b e columns
 column_found costs m b e [] found = absurd cc
 column_found costs m b e (c ∷ columns) found = by_test (m == c.from)
     (λ is.
@@ -116,7 +119,8 @@ module _ (o : Outlined) (most : ℕ → ℕ) (columns : List Column) (ks : List 
   abbrev most_cost : ℕ → ℕ
   most_cost n = slice_index (costs_of o) n * most n
 
-  part_is : (m r e : ℕ) → place_of (λ k. is_limit_of m k) 0 ks ≡ Some r → place_of (λ (c : Column). m == c.from) 0 columns ≡ Some e
+  part_is : (m r e : ℕ) → place_of (λ k. is_limit_of m k) 0 ks ≡ Some r
+      → place_of (λ (c : Column). m == c.from) 0 columns ≡ Some e
       → (pos 0 ≤ℤ part p (r, e)) × (part p (r, e) ≤ℤ pos (most_cost m))
   part_is m r e row column =
       let its = row_found (shape_of o) columns most m 0 r ks limits row in
@@ -130,7 +134,8 @@ module _ (o : Outlined) (most : ℕ → ℕ) (columns : List Column) (ks : List 
       let low = mul-le (slice_index (costs_of o) m) its.high (slice_index (costs_of o) m) (most m) (omega arith) its.within in
       (omega (arith, ints, value), omega (arith, ints, value, low))
 
-  node_step : (m : ℕ) (a c : Option ℕ) (os : List (ℕ × ℕ)) → place_of (λ k. is_limit_of m k) 0 ks ≡ a → place_of (λ (c : Column). m == c.from) 0 columns ≡ c
+  node_step : (m : ℕ) (a c : Option ℕ) (os : List (ℕ × ℕ)) → place_of (λ k. is_limit_of m k) 0 ks ≡ a
+      → place_of (λ (c : Column). m == c.from) 0 columns ≡ c
       → (opening_worth p os ≤ℤ opening_worth p (both_of a c ++ os)) × (opening_worth p (both_of a c ++ os) ≤ℤ (pos (most_cost m) +ℤ opening_worth p os))
   node_step m None c os row column = (omega (arith, ints), omega (arith, ints))
   node_step m (Some r) None os row column = (omega (arith, ints), omega (arith, ints))
@@ -167,5 +172,6 @@ openings_between o facts most within =
     (system_same o facts) (steps.0, upper)
 
 -- where no `total` line tells more than these numbers, the sum over the openings is at most that
-pub openings_within : (o : Outlined) (facts : List Fact) (most : ℕ → ℕ) → AreWithin most facts → opening_sum o facts ≤ℤ worth_of_visits o most
+pub openings_within : (o : Outlined) (facts : List Fact) (most : ℕ → ℕ) → AreWithin most facts
+    → opening_sum o facts ≤ℤ worth_of_visits o most
 openings_within o facts most within = (openings_between o facts most within).1

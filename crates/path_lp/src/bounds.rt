@@ -11,7 +11,8 @@ ghost use Rattle.dual_check.specs.Openings.{system_of};
 ghost use Rattle.dual_check.specs.Small.{IsSmall};
 ghost use Rattle.simplex_rules.specs.OutlineOpenings.{AreLimited};
 ghost use Rattle.path_lp.specs.Solving.{HoldFrom};
-ghost use Rattle.path_lp.specs.Bounding.{word_at, told_path_bound, told_duals, opening_sum, AreHeld, IsAbove, IsGreatest};
+ghost use Rattle.path_lp.specs.Bounding.{word_at, told_path_bound, told_duals, opening_sum, AreHeld, IsAbove};
+ghost use Rattle.path_lp.specs.Bounding.{IsGreatest};
 
 use crate::running::solve;
 use crate::solved::{PathBound, SolveEnd};
@@ -67,16 +68,19 @@ pub fn path_bound(
     ensures told { IfOk result (λ b. (b.value, b.word) ≡ told_path_bound outline.now report.now.facts.items pivots) }
 
     // The multipliers are those that the rule hands out at the end of its run.
-    ensures duals { IfOk result (λ b. (b.duals.scale, b.duals.multipliers.items) ≡ told_duals outline.now report.now.facts.items pivots) }
+    ensures duals { IfOk result
+        (λ b. (b.duals.scale, b.duals.multipliers.items) ≡ told_duals outline.now report.now.facts.items pivots) }
 
     // There is one for each row, and their test answers that they hold.
-    ensures held { IfOk result (λ b. AreHeld (system_of outline.now report.now.facts.items).program b.duals.scale b.duals.multipliers.items) }
+    ensures held { IfOk result
+        (λ b. AreHeld (system_of outline.now report.now.facts.items).program b.duals.scale b.duals.multipliers.items) }
 
     // No point that meets the rows is worth as much as one more, and no run that meets the facts costs more.
     ensures holds { IfOk result (λ b. IsAbove outline.now report.now.facts.items b.value) }
 
     // With `Least` it is the greatest worth of a point that meets the rows, rounded down.
-    ensures least { IfOk result (λ b. b.word ≡ Least → IsGreatest (system_of outline.now report.now.facts.items).program b.value) }
+    ensures least { IfOk result
+        (λ b. b.word ≡ Least → IsGreatest (system_of outline.now report.now.facts.items).program b.value) }
 
     // It is at most the sum over the openings.
     ensures most { IfOk result (λ b. pos b.value ≤ℤ opening_sum outline.now report.now.facts.items) }

@@ -63,7 +63,8 @@ fn multipliers(
     requires rising { (j : ℕ) → 2 ≤ j → pos 0 ≤ℤ coefficient objective.now j }
     requires slacks { slacks ≡ slacks_from rows.now.program }
     requires room { width_of rows.now.program < 2 ^ 32 }
-    ensures { IfOk result (λ out. out.items ≡ multipliers_by rows.now.program.rows (slacks_from rows.now.program) objective.now) }
+    ensures { IfOk result
+        (λ out. out.items ≡ multipliers_by rows.now.program.rows (slacks_from rows.now.program) objective.now) }
 {
     let mut out = Vec::new(alloc);
     let mut slack = slacks;

@@ -27,7 +27,9 @@ fn least(
     requires stands { Stands rows.now.program tableau.now }
     requires handed { IsHanded rows.now.program tableau.now.tableau duals.scale duals.multipliers.items }
     requires none { leaving tableau.now.tableau ≡ None }
-    ensures { IfOk result (λ s. IsSolved rows.now.program (at_limit tableau.now.tableau None) s.duals.scale s.duals.multipliers.items s.end) }
+    ensures { IfOk result
+        (λ s. IsSolved rows.now.program (at_limit tableau.now.tableau None) s.duals.scale s.duals.multipliers.items
+        s.end) }
 {
     let fractions = point(alloc, rows, tableau)?;
     Ok(Solved {
@@ -45,7 +47,9 @@ fn limited(
 ) -> Result<Solved, AllocError>
     requires stands { Stands rows.now.program tableau.now }
     requires handed { IsHanded rows.now.program tableau.now.tableau duals.scale duals.multipliers.items }
-    ensures { IfOk result (λ s. IsSolved rows.now.program (at_limit tableau.now.tableau (leaving tableau.now.tableau)) s.duals.scale s.duals.multipliers.items s.end) }
+    ensures { IfOk result
+        (λ s. IsSolved rows.now.program (at_limit tableau.now.tableau (leaving tableau.now.tableau)) s.duals.scale
+        s.duals.multipliers.items s.end) }
 {
     match tableau.leaving() {
         None => {
@@ -62,7 +66,9 @@ fn limited(
 /// The run from a tableau.
 fn run(alloc: Global, rows: &Rows, pivots: u32, start: SparseTableau) -> Result<Solved, AllocError>
     requires { Stands rows.now.program start }
-    ensures { IfOk result (λ s. IsSolved rows.now.program (run_of rows.now.program pivots 0 start.tableau) s.duals.scale s.duals.multipliers.items s.end) }
+    ensures { IfOk result
+        (λ s. IsSolved rows.now.program (run_of rows.now.program pivots 0 start.tableau) s.duals.scale
+        s.duals.multipliers.items s.end) }
 {
     let mut duals = handed(alloc, rows, &start)?;
     let mut tableau = start;
@@ -93,11 +99,16 @@ fn run(alloc: Global, rows: &Rows, pivots: u32, start: SparseTableau) -> Result<
 /// Memory is said to be wanting with no allocation refused exactly where 32 bits do not number the tableau's places.
 pub fn solve(alloc: Global, rows: &Rows, pivots: u32) -> Result<Solved, AllocError>
     requires { OpensRows rows.now.program rows.now.openings }
-    ensures rule { IfOk result (λ s. IsSolved rows.now.program (ended rows.now.program rows.now.openings pivots) s.duals.scale s.duals.multipliers.items s.end) }
+    ensures rule { IfOk result
+        (λ s. IsSolved rows.now.program (ended rows.now.program rows.now.openings pivots) s.duals.scale
+        s.duals.multipliers.items s.end) }
     ensures dual { IfOk result (λ s. IsDual rows.now.program s.duals.scale s.duals.multipliers.items) }
     ensures holds { IfOk result (λ s. HoldFrom rows.now.program s.duals.scale s.duals.multipliers.items) }
-    ensures most { IfOk result (λ s. dual_sum rows.now.program s.duals.multipliers.items ≤ℤ (opening_worth rows.now.program rows.now.openings *ℤ s.duals.scale)) }
-    ensures least { IfOk result (λ s. OnLeast s.end (λ point. IsOptimal rows.now.program s.duals.scale s.duals.multipliers.items point)) }
+    ensures most { IfOk result
+        (λ s. dual_sum rows.now.program s.duals.multipliers.items ≤ℤ
+        (opening_worth rows.now.program rows.now.openings *ℤ s.duals.scale)) }
+    ensures least { IfOk result
+        (λ s. OnLeast s.end (λ point. IsOptimal rows.now.program s.duals.scale s.duals.multipliers.items point)) }
 {
     rows.kept();
     rule_answers();

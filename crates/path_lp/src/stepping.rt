@@ -45,8 +45,11 @@ fn pivot_on(
 ) -> Result<Option<Standing>, AllocError>
     requires stands { Stands rows.now.program tableau }
     requires row { row < length tableau.tableau.rows }
-    requires entering { entering_answer (held_at tableau.tableau.rows row).line tableau.tableau.objective (tableau.width - 2) ≡ Some (Some place) }
-    ensures { IfOk result (λ answer. MatchOption answer (stepped rows.now.program row tableau.tableau ≡ None) (λ s. IsNext rows.now.program row tableau.tableau s.tableau s.duals.scale s.duals.multipliers.items)) }
+    requires entering { entering_answer (held_at tableau.tableau.rows row).line tableau.tableau.objective
+        (tableau.width - 2) ≡ Some (Some place) }
+    ensures { IfOk result
+        (λ answer. MatchOption answer (stepped rows.now.program row tableau.tableau ≡ None)
+        (λ s. IsNext rows.now.program row tableau.tableau s.tableau s.duals.scale s.duals.multipliers.items)) }
 {
     let Some(more) = tableau.pivoted(alloc, row, place)? else {
         return Ok(None);
@@ -72,7 +75,9 @@ pub fn next(
 ) -> Result<Option<Standing>, AllocError>
     requires stands { Stands rows.now.program tableau }
     requires row { row < length tableau.tableau.rows }
-    ensures { IfOk result (λ answer. MatchOption answer (stepped rows.now.program row tableau.tableau ≡ None) (λ s. IsNext rows.now.program row tableau.tableau s.tableau s.duals.scale s.duals.multipliers.items)) }
+    ensures { IfOk result
+        (λ answer. MatchOption answer (stepped rows.now.program row tableau.tableau ≡ None)
+        (λ s. IsNext rows.now.program row tableau.tableau s.tableau s.duals.scale s.duals.multipliers.items)) }
 {
     match tableau.entering(row) {
         None => Ok(None),

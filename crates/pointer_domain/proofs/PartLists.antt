@@ -21,7 +21,8 @@ use Rattle.pointer_domain.specs.declared.part.Part.TheVariants.{At}
 use Rattle.pointer_domain.specs.Parts.{alternative_of, parts_of, AreAbstract}
 
 -- one more, before the rest
-pub one_more : {A B : Type 0} (f : A → B) (xs : List A) (x : A) (ys : List B) → map f (xs ++ (x ∷ [])) ++ ys ≡ map f xs ++ (f x ∷ ys)
+pub one_more : {A B : Type 0} (f : A → B) (xs : List A) (x : A) (ys : List B)
+    → map f (xs ++ (x ∷ [])) ++ ys ≡ map f xs ++ (f x ∷ ys)
 one_more f [] x ys = refl
 one_more f (y ∷ xs) x ys = ap (λ rest. f y ∷ rest) (one_more f xs x ys)
 
@@ -30,7 +31,8 @@ map_two f [] ys = refl
 map_two f (x ∷ xs) ys = ap (λ rest. f x ∷ rest) (map_two f xs ys)
 
 -- one more part, before the places that are left
-pub more_parts : (parts : List Part) (rest further : List (ℕ × Stride)) (place : ℕ × Stride) (all : List Alternative) → rest ≡ place ∷ further
+pub more_parts : (parts : List Part) (rest further : List (ℕ × Stride)) (place : ℕ × Stride) (all : List Alternative)
+    → rest ≡ place ∷ further
     → map alternative_of parts ++ map place_of rest ≡ all → map alternative_of (parts ++ (At place.0 place.1 ∷ [])) ++ map place_of further ≡ all
 more_parts parts rest further place all cons so_far =
     one_more alternative_of parts (At place.0 place.1) (map place_of further) ∙ subst (λ r. map alternative_of parts ++ map place_of r ≡ all) cons so_far
@@ -55,25 +57,29 @@ more_first old choices rest further first whole cons so_far =
 
 -- ---- each choice suits the sizes
 
-are_values : (sizes : List ℕ) (args : List AbstractValue) → AreAbstract args → AllZip (λ size v. HasSize v size) sizes args → AllZip IsValue sizes args
+are_values : (sizes : List ℕ) (args : List AbstractValue) → AreAbstract args
+    → AllZip (λ size v. HasSize v size) sizes args → AllZip IsValue sizes args
 are_values [] [] are sized = tt
 are_values [] (v ∷ args) are sized = absurd sized
 are_values (size ∷ sizes) [] are sized = absurd sized
 are_values (size ∷ sizes) (v ∷ args) are sized = (record { is = are.0; sized = sized.0 }, are_values sizes args are.1 sized.1)
 
-pub choices_suit : (sizes : List ℕ) (args : List AbstractValue) (all : List (List Alternative)) → all ≡ choices (map alternatives args) → AreAbstract args → AllZip (λ size v. HasSize v size) sizes args
+pub choices_suit : (sizes : List ℕ) (args : List AbstractValue) (all : List (List Alternative))
+    → all ≡ choices (map alternatives args) → AreAbstract args → AllZip (λ size v. HasSize v size) sizes args
     → EachOf (EachSuits sizes) all
 choices_suit sizes args all is are sized = subst (EachOf (EachSuits sizes)) (sym is) (suit_choices sizes (map alternatives args) (suit_operands sizes args (are_values sizes args are sized)))
 
 -- ---- all outcomes
 
-pub both_alike : (size : ℕ) (a b : Option AbstractValue) → IfSome a (IsValue size) → IfSome b (IsValue size) → IfSome a (λ x. IfSome b (λ y. AreAlike x y))
+pub both_alike : (size : ℕ) (a b : Option AbstractValue) → IfSome a (IsValue size) → IfSome b (IsValue size)
+    → IfSome a (λ x. IfSome b (λ y. AreAlike x y))
 both_alike size None b is_a is_b = tt
 both_alike size (Some a) None is_a is_b = tt
 both_alike size (Some a) (Some b) is_a is_b = alike size a b is_a is_b
 
 -- what a loop over the choices keeps
-pub record Gathers (op : Op) (sizes : List ℕ) (so_far : Outcome) (rest : List (List Alternative)) (whole : Outcome) : Type 0 where
+pub record Gathers (op : Op) (sizes : List ℕ) (so_far : Outcome) (rest : List (List Alternative))
+    (whole : Outcome) : Type 0 where
   pub same : gathered so_far (map (at_choice op sizes) rest) ≡ whole
   pub suits : EachOf (EachSuits (operand_sizes op sizes)) rest
   pub is : IsOutcome (size_of_result op sizes) so_far
@@ -109,5 +115,6 @@ first_gathered op sizes so_far whole answer new rest further first parts typed c
     })
 
 -- after the last choice
-pub none_left : (op : Op) (sizes : List ℕ) (so_far whole : Outcome) (rest : List (Vec Part Global)) → rest ≡ [] → Gathers op sizes so_far (map parts_of rest) whole → so_far ≡ whole
+pub none_left : (op : Op) (sizes : List ℕ) (so_far whole : Outcome) (rest : List (Vec Part Global)) → rest ≡ []
+    → Gathers op sizes so_far (map parts_of rest) whole → so_far ≡ whole
 none_left op sizes so_far whole rest none g = (subst (λ r. Gathers op sizes so_far (map parts_of r) whole) none g).same

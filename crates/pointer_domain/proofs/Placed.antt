@@ -12,7 +12,8 @@ use Rattle.pointer_rules.specs.AbstractValues.{ArePlaces, IsPlace, with_place}
 use Rattle.pointer_domain.specs.Parts.{lower}
 
 -- a place that is lower stays first
-lower_first : (place new : ℕ × Stride) (places : List (ℕ × Stride)) → nat_lt place.0 new.0 ≡ true → with_place (place ∷ places) new ≡ place ∷ with_place places new
+lower_first : (place new : ℕ × Stride) (places : List (ℕ × Stride)) → nat_lt place.0 new.0 ≡ true
+    → with_place (place ∷ places) new ≡ place ∷ with_place places new
 lower_first place new places low =
     let below : place.0 < new.0 = ltb-true place.0 new.0 low in
     by_test (place.0 == new.0)
@@ -22,7 +23,8 @@ lower_first place new places low =
     (λ g. rw (e, g) refl))
 
 -- at the frame that stands there already
-pub put_at : (places : List (ℕ × Stride)) (new place : ℕ × Stride) → slice_get places (lower places new.0) ≡ Some place → place.0 ≡ new.0
+pub put_at : (places : List (ℕ × Stride)) (new place : ℕ × Stride) → slice_get places (lower places new.0) ≡ Some place
+    → place.0 ≡ new.0
     → with_place places new ≡ slice_set places (lower places new.0) (place.0, joined place.1 new.1)
 put_at [] new place there same = cc
 put_at (first ∷ places) new place there same = by_test (nat_lt first.0 new.0)
@@ -32,7 +34,8 @@ put_at (first ∷ places) new place there same = by_test (nat_lt first.0 new.0)
     rw (e, eq-eqb first.0 new.0 at_first, sym is) refl)
 
 -- before the first greater frame, or after all
-pub put_before : (places : List (ℕ × Stride)) (new : ℕ × Stride) → ((place : ℕ × Stride) → slice_get places (lower places new.0) ≡ Some place → place.0 ≢ new.0)
+pub put_before : (places : List (ℕ × Stride)) (new : ℕ × Stride)
+    → ((place : ℕ × Stride) → slice_get places (lower places new.0) ≡ Some place → place.0 ≢ new.0)
     → with_place places new ≡ insert places (lower places new.0) new
 put_before [] new apart = refl
 put_before (first ∷ places) new apart = by_test (nat_lt first.0 new.0)
@@ -43,7 +46,8 @@ put_before (first ∷ places) new apart = by_test (nat_lt first.0 new.0)
     by_test (first.0 == new.0) (λ f. absurd (other (eqb-true first.0 new.0 f))) (λ f. rw (e, f, greater) refl))
 
 -- each place is one
-pub are_at : (places : List (ℕ × Stride)) (k : ℕ) (place : ℕ × Stride) → ArePlaces places → slice_get places k ≡ Some place → IsPlace place
+pub are_at : (places : List (ℕ × Stride)) (k : ℕ) (place : ℕ × Stride) → ArePlaces places
+    → slice_get places k ≡ Some place → IsPlace place
 are_at [] k place are there = cc
 are_at (first ∷ places) zero place are there = let same : first ≡ place = cc in subst IsPlace same are.0
 are_at (first ∷ places) (suc k) place are there = are_at places k place are.1 there

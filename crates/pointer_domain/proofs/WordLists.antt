@@ -19,7 +19,8 @@ use Rattle.pointer_rules.specs.ApplyLaws.{singles, only_choice}
 use Rattle.pointer_domain.specs.Parts.{AreWords}
 
 -- no operator has more than three operands
-pub few_values : (op : Op) (sizes : List ℕ) (args : List AbstractValue) → AllZip (λ size v. HasSize v size) (operand_sizes op sizes) args → length args ≤ 3
+pub few_values : (op : Op) (sizes : List ℕ) (args : List AbstractValue)
+    → AllZip (λ size v. HasSize v size) (operand_sizes op sizes) args → length args ≤ 3
 few_values op sizes args sized =
     let long : length args ≡ length (operand_sizes op sizes) = AllZip-long (λ size v. HasSize v size) (operand_sizes op sizes) args sized in
     omega (arith, few_operands op sizes, long)
@@ -35,7 +36,8 @@ each_is_words (u ∷ v ∷ w ∷ []) a b c few first second third = (first, (sec
 each_is_words (u ∷ v ∷ w ∷ x ∷ args) a b c few first second third = absurd (omega (arith, few))
 
 -- they have the sizes of the operands
-pub words_sized : (sizes : List ℕ) (args : List AbstractValue) (words : List Stride) → AreWords args words → AllZip (λ size v. HasSize v size) sizes args → HaveSizes stride_sets sizes words
+pub words_sized : (sizes : List ℕ) (args : List AbstractValue) (words : List Stride) → AreWords args words
+    → AllZip (λ size v. HasSize v size) sizes args → HaveSizes stride_sets sizes words
 words_sized [] [] [] are sized = tt
 words_sized [] [] (x ∷ words) are sized = absurd are
 words_sized sizes (v ∷ args) [] are sized = absurd are
@@ -44,7 +46,8 @@ words_sized (size ∷ sizes) [] words are sized = absurd sized
 words_sized (size ∷ sizes) (v ∷ args) (x ∷ words) are sized = ((rw are.0 at sized.0).words, words_sized sizes args words are.1 sized.1)
 
 -- each has its words as its one alternative
-are_singles : (args : List AbstractValue) (words : List Stride) → AreWords args words → map alternatives args ≡ singles (map Words words)
+are_singles : (args : List AbstractValue) (words : List Stride) → AreWords args words
+    → map alternatives args ≡ singles (map Words words)
 are_singles [] [] are = refl
 are_singles [] (x ∷ words) are = absurd are
 are_singles (v ∷ args) [] are = absurd are
@@ -54,14 +57,16 @@ the_numbers : (words : List Stride) → map numbers_of (map Words words) ≡ wor
 the_numbers [] = refl
 the_numbers (x ∷ words) = ap (λ rest. x ∷ rest) (the_numbers words)
 
-no_pointer : (op : Op) (sizes : List ℕ) (words : List Stride) → at_choice op sizes (map Words words) ≡ words_outcome (applied_words op sizes words)
+no_pointer : (op : Op) (sizes : List ℕ) (words : List Stride)
+    → at_choice op sizes (map Words words) ≡ words_outcome (applied_words op sizes words)
 no_pointer op sizes [] = refl
 no_pointer op sizes (a ∷ []) = refl
 no_pointer op sizes (a ∷ b ∷ []) = refl
 no_pointer op sizes (a ∷ b ∷ c ∷ words) = ap (λ (rest : List Stride). words_outcome (applied_words op sizes (a ∷ b ∷ c ∷ rest))) (the_numbers words)
 
 -- what the operator gives at the words is what it gives at the values
-pub words_applied : (op : Op) (sizes : List ℕ) (args : List AbstractValue) (words : List Stride) → AreWords args words → words_outcome (applied_words op sizes words) ≡ applied op sizes args
+pub words_applied : (op : Op) (sizes : List ℕ) (args : List AbstractValue) (words : List Stride) → AreWords args words
+    → words_outcome (applied_words op sizes words) ≡ applied op sizes args
 words_applied op sizes args words are =
     let one : choices (map alternatives args) ≡ map Words words ∷ [] = ap choices (are_singles args words are) ∙ only_choice (map Words words) in
     rw (one, no_pointer op sizes words) refl

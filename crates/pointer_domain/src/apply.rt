@@ -4,7 +4,8 @@ ghost use Rattle.std.specs.Prelude.{◌≡◌, IfOk, IfSome, IsSome, map};
 ghost use Rattle.std.specs.List.{AllZip};
 ghost use Rattle.alf_ops.specs.Table.{result_size, operand_sizes};
 ghost use Rattle.pointer_rules.specs.AbstractValues.{HasSize, AreAlike};
-ghost use Rattle.pointer_rules.specs.Choices.{either_value as either_value_of, united as united_of, gathered as gathered_of, nothing, at_choice as at_choice_of, applied};
+ghost use Rattle.pointer_rules.specs.Choices.{either_value as either_value_of, united as united_of};
+ghost use Rattle.pointer_rules.specs.Choices.{gathered as gathered_of, nothing, at_choice as at_choice_of, applied};
 ghost use Rattle.pointer_rules.specs.Covering.{EachSuits};
 ghost use Rattle.pointer_rules.specs.ApplyLaws.{EachOf};
 ghost use Rattle.pointer_domain.specs.Parts.{parts_of, outcome_of};
@@ -57,7 +58,8 @@ fn gathered(
 ) -> Result<(Option<AVal>, FaultSet), AllocError>
     requires typed { IsSome (result_size op sizes.now) }
     requires suits { EachOf (EachSuits (operand_sizes op sizes.now)) (map parts_of all.now) }
-    ensures { IfOk result (λ r. outcome_of r ≡ gathered_of nothing (map (at_choice_of op sizes.now) (map parts_of all.now))) }
+    ensures { IfOk result
+        (λ r. outcome_of r ≡ gathered_of nothing (map (at_choice_of op sizes.now) (map parts_of all.now))) }
 {
     let mut so_far = (None, FaultSet::none());
     let mut rest = all;

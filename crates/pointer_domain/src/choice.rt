@@ -4,7 +4,9 @@ ghost use Rattle.std.specs.Prelude.{◌≡◌, ◌≤◌, ◌||◌, true, IfOk, 
 ghost use Rattle.alf_ops.specs.Table.{result_size, operand_sizes};
 ghost use Rattle.strided_rules.specs.Domains.{applied as applied_words};
 ghost use Rattle.pointer_rules.specs.AbstractValues.{numbers_of};
-ghost use Rattle.pointer_rules.specs.Choices.{alternative_at, divided as divided_of, words_outcome as words_outcome_of, at_words as at_words_of, numbers as numbers_at, by_rule as by_rule_of, at_choice as at_choice_of, is_place as is_place_of};
+ghost use Rattle.pointer_rules.specs.Choices.{alternative_at, divided as divided_of, words_outcome as words_outcome_of};
+ghost use Rattle.pointer_rules.specs.Choices.{at_words as at_words_of, numbers as numbers_at, by_rule as by_rule_of};
+ghost use Rattle.pointer_rules.specs.Choices.{at_choice as at_choice_of, is_place as is_place_of};
 ghost use Rattle.pointer_rules.specs.Covering.{EachSuits};
 ghost use Rattle.pointer_domain.specs.Parts.{alternative_of, outcome_of};
 
@@ -79,14 +81,18 @@ pub fn words_outcome(alloc: Global, answer: Applied<Strided>) -> (Option<AVal>, 
 
 /// One of the three is a pointer.
 fn some_place(a: Part, b: Part, c: Part) -> bool
-    ensures { result ≡ (is_place_of (alternative_of a) || is_place_of (alternative_of b) || is_place_of (alternative_of c)) }
+    ensures { result
+        ≡ (is_place_of (alternative_of a) || is_place_of (alternative_of b) || is_place_of (alternative_of c)) }
 {
     is_place(a) || is_place(b) || is_place(c)
 }
 
 /// One of the parts is a pointer.
 fn some_pointer(chosen: &[Part]) -> bool
-    ensures { result ≡ (is_place_of (alternative_at (map alternative_of chosen.now) 0) || is_place_of (alternative_at (map alternative_of chosen.now) 1) || is_place_of (alternative_at (map alternative_of chosen.now) 2)) }
+    ensures { result
+        ≡ (is_place_of (alternative_at (map alternative_of chosen.now) 0) || is_place_of
+        (alternative_at (map alternative_of chosen.now) 1) || is_place_of
+        (alternative_at (map alternative_of chosen.now) 2)) }
 {
     some_place(part_at(chosen, 0), part_at(chosen, 1), part_at(chosen, 2))
 }
@@ -100,8 +106,14 @@ fn at_places(
 ) -> Result<(Option<AVal>, FaultSet), AllocError>
     requires typed { IsSome (result_size op sizes.now) }
     requires suits { EachSuits (operand_sizes op sizes.now) (map alternative_of chosen.now) }
-    requires some { (is_place_of (alternative_at (map alternative_of chosen.now) 0) || is_place_of (alternative_at (map alternative_of chosen.now) 1) || is_place_of (alternative_at (map alternative_of chosen.now) 2)) ≡ true }
-    ensures { IfOk result (λ r. outcome_of r ≡ by_rule_of op (numbers_at op sizes.now (map alternative_of chosen.now)) (alternative_at (map alternative_of chosen.now) 0) (alternative_at (map alternative_of chosen.now) 1) (alternative_at (map alternative_of chosen.now) 2)) }
+    requires some { (is_place_of (alternative_at (map alternative_of chosen.now) 0) || is_place_of
+        (alternative_at (map alternative_of chosen.now) 1) || is_place_of
+        (alternative_at (map alternative_of chosen.now) 2)) ≡ true }
+    ensures { IfOk result
+        (λ r. outcome_of r
+        ≡ by_rule_of op (numbers_at op sizes.now (map alternative_of chosen.now))
+        (alternative_at (map alternative_of chosen.now) 0) (alternative_at (map alternative_of chosen.now) 1)
+        (alternative_at (map alternative_of chosen.now) 2)) }
 {
     let answer = at_numbers(op, sizes, chosen);
     let words = answer.value;

@@ -2,7 +2,8 @@
 
 ghost use Rattle.std.specs.Prelude.{◌≡◌, [], ◌∷◌, ◌++◌, IfOk, OnOk, map};
 ghost use Rattle.pointer_rules.specs.AbstractValues.{IsAbstract, words_first as words_first_of, alternatives};
-ghost use Rattle.pointer_rules.specs.Choices.{each_after as each_after_of, each_first as each_first_of, choices as choices_of};
+ghost use Rattle.pointer_rules.specs.Choices.{each_after as each_after_of, each_first as each_first_of};
+ghost use Rattle.pointer_rules.specs.Choices.{choices as choices_of};
 ghost use Rattle.pointer_domain.specs.Parts.{alternative_of, parts_of, AreAbstract};
 
 use crate::part::Part;
@@ -53,7 +54,9 @@ fn each_after(
     first: &Part,
     choices: &[Vec<Part>],
 ) -> Result<(), AllocError>
-    ensures { OnOk result (map parts_of all.new.items ≡ map parts_of all.old.items ++ each_after_of (alternative_of first.now) (map parts_of choices.now)) }
+    ensures { OnOk result
+        (map parts_of all.new.items
+        ≡ map parts_of all.old.items ++ each_after_of (alternative_of first.now) (map parts_of choices.now)) }
 {
     let mut rest = choices;
     while let Some((others, further)) = rest.split_first() {
@@ -70,7 +73,8 @@ fn each_first(
     firsts: &[Part],
     choices: &[Vec<Part>],
 ) -> Result<Vec<Vec<Part>>, AllocError>
-    ensures { IfOk result (λ all. map parts_of all.items ≡ each_first_of (map alternative_of firsts.now) (map parts_of choices.now)) }
+    ensures { IfOk result
+        (λ all. map parts_of all.items ≡ each_first_of (map alternative_of firsts.now) (map parts_of choices.now)) }
 {
     let mut all = Vec::new(alloc);
     let mut rest = firsts;
@@ -96,7 +100,8 @@ fn with_operand(
     value: &AVal,
     choices: &[Vec<Part>],
 ) -> Result<Vec<Vec<Part>>, AllocError>
-    ensures all { IfOk result (λ all. map parts_of all.items ≡ each_first_of (alternatives value.now) (map parts_of choices.now)) }
+    ensures all { IfOk result
+        (λ all. map parts_of all.items ≡ each_first_of (alternatives value.now) (map parts_of choices.now)) }
     ensures kept { IsAbstract value.now }
 {
     let firsts = parts(alloc, value)?;

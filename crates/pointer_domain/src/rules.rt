@@ -3,7 +3,10 @@
 ghost use Rattle.std.specs.Prelude.{◌≡◌, IfOk, IfSome, if◌then◌else◌};
 ghost use Rattle.strided_rules.specs.Members.{has as has_of};
 ghost use Rattle.pointer_rules.specs.AbstractValues.{IsAbstract, AreAlike, alone as alone_of, joined as joined_of};
-ghost use Rattle.pointer_rules.specs.Choices.{only_words as only_words_of, tells as tells_of, gives as gives_of, word as word_of, pointer as pointer_of, sum as sum_of, difference as difference_of, equality as equality_of, order as order_of, choice as choice_of, by_rule as by_rule_of, is_place as is_place_of};
+ghost use Rattle.pointer_rules.specs.Choices.{only_words as only_words_of, tells as tells_of, gives as gives_of};
+ghost use Rattle.pointer_rules.specs.Choices.{word as word_of, pointer as pointer_of, sum as sum_of};
+ghost use Rattle.pointer_rules.specs.Choices.{difference as difference_of, equality as equality_of, order as order_of};
+ghost use Rattle.pointer_rules.specs.Choices.{choice as choice_of, by_rule as by_rule_of, is_place as is_place_of};
 ghost use Rattle.pointer_domain.specs.Parts.{alternative_of, outcome_of, SuitsRule};
 
 use crate::part::Part;
@@ -164,7 +167,11 @@ fn alone(alloc: Global, part: Part) -> Result<AVal, AllocError>
 /// The first value where the bit may be 1, and the second where it may be 0.
 fn chosen(alloc: Global, bit: Strided, a: Part, b: Part) -> Result<AVal, AllocError>
     requires { AreAlike (alone_of (alternative_of a)) (alone_of (alternative_of b)) }
-    ensures { IfOk result (λ value. value ≡ (if has_of bit 1 then (if has_of bit 0 then joined_of (alone_of (alternative_of a)) (alone_of (alternative_of b)) else alone_of (alternative_of a)) else alone_of (alternative_of b))) }
+    ensures { IfOk result
+        (λ value. value
+        ≡ (if has_of bit 1
+        then (if has_of bit 0 then joined_of (alone_of (alternative_of a)) (alone_of (alternative_of b)) else alone_of
+        (alternative_of a)) else alone_of (alternative_of b))) }
 {
     if !bit.has(1) {
         return alone(alloc, b);
@@ -202,7 +209,8 @@ pub fn by_rule(
     c: Part,
 ) -> Result<(Option<AVal>, FaultSet), AllocError>
     requires { SuitsRule op numbers (alternative_of b) (alternative_of c) }
-    ensures { IfOk result (λ r. outcome_of r ≡ by_rule_of op numbers (alternative_of a) (alternative_of b) (alternative_of c)) }
+    ensures { IfOk result
+        (λ r. outcome_of r ≡ by_rule_of op numbers (alternative_of a) (alternative_of b) (alternative_of c)) }
 {
     match op {
         Op::Add => {

@@ -1,7 +1,8 @@
 //! The values.
 
 ghost use Rattle.std.specs.Prelude.{◌≡◌, IfOk, IfSome};
-ghost use Rattle.pointer_rules.specs.AbstractValues.{AbstractValue, IsAbstract, AreAlike, Words, Places, alone, either_words as either_words_of, joined as joined_of};
+ghost use Rattle.pointer_rules.specs.AbstractValues.{AbstractValue, IsAbstract, AreAlike, Words, Places, alone};
+ghost use Rattle.pointer_rules.specs.AbstractValues.{either_words as either_words_of, joined as joined_of};
 ghost use Rattle.pointer_domain.specs.Rooms.{value_of};
 
 use crate::places::put_all;

@@ -1,4 +1,5 @@
--- What an operator gives at abstract values tells each outcome of the run, and of values of one member alone exactly the run's outcome.
+-- What an operator gives at abstract values tells each outcome of the run, and of values of one member alone exactly
+-- the run's outcome.
 --   words_answer      at words
 --   choice_answers    at one alternative for each operand
 use Rattle.std.proofs.Common.{◌≡◌, ℕ, zero, suc, true, false, List, [], ◌∷◌, map, Option, Some, None, IsSome, arith, refl, sym, subst, ◌∙◌}
@@ -32,13 +33,15 @@ sized_number : (size : ℕ) (x : Alternative) → SuitsSize size x → IsOfSize 
 sized_number size (Words words) suits = suits
 sized_number size (Places frame offsets) suits = suits.0
 
-pub sized_numbers : (sizes : List ℕ) (args : List Alternative) → EachSuits sizes args → HaveSizes stride_sets sizes (map numbers_of args)
+pub sized_numbers : (sizes : List ℕ) (args : List Alternative) → EachSuits sizes args
+    → HaveSizes stride_sets sizes (map numbers_of args)
 sized_numbers [] [] suits = tt
 sized_numbers [] (x ∷ args) suits = absurd suits
 sized_numbers (size ∷ sizes) [] suits = absurd suits
 sized_numbers (size ∷ sizes) (x ∷ args) suits = ((sized_number size x suits.0).size, sized_numbers sizes args suits.1)
 
-pub kept_numbers : (sizes : List ℕ) (args : List Alternative) → EachSuits sizes args → AreKept stride_sets (map numbers_of args)
+pub kept_numbers : (sizes : List ℕ) (args : List Alternative) → EachSuits sizes args
+    → AreKept stride_sets (map numbers_of args)
 kept_numbers [] [] suits d c = no_member d c
 kept_numbers [] (x ∷ args) suits d c = absurd suits
 kept_numbers (size ∷ sizes) [] suits d c = absurd suits
@@ -51,7 +54,8 @@ one_number (Words words) (Ptr frame offset) is = absurd is
 one_number (Places frame offsets) (Int size bits) is = absurd is
 one_number (Places frame offsets) (Ptr other offset) is = is.1
 
-covered_numbers : (args : List Alternative) (values : List Value) → EachIsOf args values → HaveWords stride_sets (map numbers_of args) (map bits_of values)
+covered_numbers : (args : List Alternative) (values : List Value) → EachIsOf args values
+    → HaveWords stride_sets (map numbers_of args) (map bits_of values)
 covered_numbers [] [] is = tt
 covered_numbers [] (value ∷ values) is = absurd is
 covered_numbers (x ∷ args) [] is = absurd is
@@ -63,7 +67,8 @@ only_number (Words words) (Ptr frame offset) only = absurd only
 only_number (Places frame offsets) (Int size bits) only = absurd only
 only_number (Places frame offsets) (Ptr other offset) only = only.1
 
-only_numbers : (args : List Alternative) (values : List Value) → EachOnly args values → HaveOneWord stride_sets (map numbers_of args) (map bits_of values)
+only_numbers : (args : List Alternative) (values : List Value) → EachOnly args values
+    → HaveOneWord stride_sets (map numbers_of args) (map bits_of values)
 only_numbers [] [] only = tt
 only_numbers [] (value ∷ values) only = absurd only
 only_numbers (x ∷ args) [] only = absurd only
@@ -71,7 +76,8 @@ only_numbers (x ∷ args) (value ∷ values) only = (only_number x value only.0,
 
 -- ---- operands at their places
 
-bits_at : (values : List Value) (i : ℕ) → slice_index (map bits_of values) i ≡ bits_of (slice_index_or values i (Int 0 0))
+bits_at : (values : List Value) (i : ℕ)
+    → slice_index (map bits_of values) i ≡ bits_of (slice_index_or values i (Int 0 0))
 bits_at [] zero = refl
 bits_at [] (suc i) = refl
 bits_at (value ∷ values) zero = refl
@@ -81,7 +87,8 @@ same_value : (op : Op) (sizes : List ℕ) (values : List Value)
     → applied_at op sizes (operand_at values 0) (operand_at values 1) (operand_at values 2) ≡ value op sizes (map bits_of values)
 same_value op sizes values = rw (bits_at values 0, bits_at values 1, bits_at values 2) refl
 
-kind_at : (args : List Alternative) (values : List Value) (i : ℕ) → EachIsOf args values → is_place (alternative_at args i) ≡ is_pointer (operand_at values i)
+kind_at : (args : List Alternative) (values : List Value) (i : ℕ) → EachIsOf args values
+    → is_place (alternative_at args i) ≡ is_pointer (operand_at values i)
 kind_at [] [] zero is = refl
 kind_at [] [] (suc i) is = refl
 kind_at [] (value ∷ values) i is = absurd is
@@ -102,7 +109,8 @@ applied_is op sizes args values chosen =
     stride_is_sets.applied op sizes (map numbers_of args) chosen.typed (sized_numbers (operand_sizes op sizes) args chosen.suits) (kept_numbers (operand_sizes op sizes) args chosen.suits)
 
 -- the number of an operator that does not divide
-number : (op : Op) (sizes : List ℕ) (args : List Alternative) (values : List Value) → Chosen op sizes args values → divides op ≡ false
+number : (op : Op) (sizes : List ℕ) (args : List Alternative) (values : List Value) → Chosen op sizes args values
+    → divides op ≡ false
     → Number (numbers op sizes args) (size_of_result op sizes) (value op sizes (map bits_of values)) (EachOnly args values)
 number op sizes args values chosen whole =
     let is = applied_is op sizes args values chosen in
@@ -117,12 +125,15 @@ number op sizes args values chosen whole =
       only = λ only. only_is g.0 g.1 (is.sharp (map bits_of values) (only_numbers args values only) never).0;
     }
   where
-    only_is : (d : Stride) → numbers op sizes args ≡ Some d → (e : Stride) × (numbers op sizes args ≡ Some e) × IsOnly stride_sets e (value op sizes (map bits_of values)) → IsOnly stride_sets d (value op sizes (map bits_of values))
+    only_is : (d : Stride) → numbers op sizes args ≡ Some d
+        → (e : Stride) × (numbers op sizes args ≡ Some e) × IsOnly stride_sets e (value op sizes (map bits_of values))
+        → IsOnly stride_sets d (value op sizes (map bits_of values))
     only_is d is_d e = let same : e.0 ≡ d = cc in subst (λ d. IsOnly stride_sets d (value op sizes (map bits_of values))) same e.2
 
 -- ---- at words
 
-words_are : (size : ℕ) (answer : Option Stride) → ((d : Stride) → answer ≡ Some d → IsOfSize stride_sets size d) → IfSome (only_words answer) (IsValue size)
+words_are : (size : ℕ) (answer : Option Stride) → ((d : Stride) → answer ≡ Some d → IsOfSize stride_sets size d)
+    → IfSome (only_words answer) (IsValue size)
 words_are size None of_size = tt
 words_are size (Some d) of_size = alone_is size (Words d) (of_size d refl)
 
@@ -150,7 +161,8 @@ words_answer op sizes args values chosen = by_test (divides op && (bits_of (oper
     zero : (divides op && (bits_of (operand_at values 1) == 0)) ≡ true → DividesByZero op xs
     zero e = let both = and_parts e in (both.0, bits_at values 1 ∙ both.1)
       where
-        and_parts : (divides op && (bits_of (operand_at values 1) == 0)) ≡ true → (divides op ≡ true) × (bits_of (operand_at values 1) ≡ 0)
+        and_parts : (divides op && (bits_of (operand_at values 1) == 0)) ≡ true
+            → (divides op ≡ true) × (bits_of (operand_at values 1) ≡ 0)
         and_parts e = by_test (divides op)
             (λ f. (f, eqb-true (bits_of (operand_at values 1)) 0 (rw f at e)))
             (λ f. absurd (false≢true (rw f at e)))
@@ -165,7 +177,8 @@ words_answer op sizes args values chosen = by_test (divides op && (bits_of (oper
     covered : (DividesByZero op xs → ⊥) → Tells (words_outcome answer) (Ok (Int size (value op sizes xs)))
     covered apart = let g = is.covering xs words apart in rw g.1 ((is.size g.0 g.1).size, g.2)
 
-    exact : EachOnly args values → (DividesByZero op xs → ⊥) → OnlyTells (words_outcome answer) (Ok (Int size (value op sizes xs)))
+    exact : EachOnly args values → (DividesByZero op xs → ⊥)
+        → OnlyTells (words_outcome answer) (Ok (Int size (value op sizes xs)))
     exact only apart = let s = is.sharp xs (only_numbers args values only) apart in
         (rw s.0.1 (alone_only (Words s.0.0) (Int size (value op sizes xs)) ((is.size s.0.0 s.0.1).size, s.0.2)), rw s.1 refl)
 
@@ -176,7 +189,8 @@ record IsOther (op : Op) : Type 0 where
   pub abstractly : (result : Option Stride) (a b c : Alternative) → by_rule op result a b c ≡ tells Kind
   pub concretely : (sizes : List ℕ) (a b c : Value) → rule_at op sizes a b c ≡ Err Kind
 
-by_pointers : (Q : Op → Type 0) → Q Add → Q Sub → Q Eq → Q Neq → Q ULt → Q ULe → Q UGt → Q UGe → Q If → ((op : Op) → IsOther op → Q op) → (op : Op) → Q op
+by_pointers : (Q : Op → Type 0) → Q Add → Q Sub → Q Eq → Q Neq → Q ULt → Q ULe → Q UGt → Q UGe → Q If
+    → ((op : Op) → IsOther op → Q op) → (op : Op) → Q op
 by_pointers Q add sub eq neq lt le gt ge choose other Add = add
 by_pointers Q add sub eq neq lt le gt ge choose other Sub = sub
 by_pointers Q add sub eq neq lt le gt ge choose other Eq = eq
@@ -189,7 +203,8 @@ by_pointers Q add sub eq neq lt le gt ge choose other If = choose
 by_pointers Q add sub eq neq lt le gt ge choose other op = other op (record { abstractly = λ result a b c. refl; concretely = λ sizes a b c. refl })
 
 -- lists of two and of three
-by_two : (P : List Alternative → List Value → Type 0) (r s : ℕ) → ((a b : Alternative) (x y : Value) → P (a ∷ b ∷ []) (x ∷ y ∷ []))
+by_two : (P : List Alternative → List Value → Type 0) (r s : ℕ)
+    → ((a b : Alternative) (x y : Value) → P (a ∷ b ∷ []) (x ∷ y ∷ []))
     → (args : List Alternative) (values : List Value) → EachSuits (r ∷ s ∷ []) args → EachIsOf args values → P args values
 by_two P r s p [] values suits is = absurd suits
 by_two P r s p (a ∷ []) values suits is = absurd suits.1
@@ -199,7 +214,8 @@ by_two P r s p (a ∷ b ∷ []) (x ∷ []) suits is = absurd is.1
 by_two P r s p (a ∷ b ∷ []) (x ∷ y ∷ z ∷ values) suits is = absurd is.1.1
 by_two P r s p (a ∷ b ∷ []) (x ∷ y ∷ []) suits is = p a b x y
 
-by_three : (P : List Alternative → List Value → Type 0) (r s t : ℕ) → ((a b c : Alternative) (x y z : Value) → P (a ∷ b ∷ c ∷ []) (x ∷ y ∷ z ∷ []))
+by_three : (P : List Alternative → List Value → Type 0) (r s t : ℕ)
+    → ((a b c : Alternative) (x y z : Value) → P (a ∷ b ∷ c ∷ []) (x ∷ y ∷ z ∷ []))
     → (args : List Alternative) (values : List Value) → EachSuits (r ∷ s ∷ t ∷ []) args → EachIsOf args values → P args values
 by_three P r s t p [] values suits is = absurd suits
 by_three P r s t p (a ∷ []) values suits is = absurd suits.1
@@ -212,7 +228,8 @@ by_three P r s t p (a ∷ b ∷ c ∷ []) (x ∷ y ∷ z ∷ w ∷ values) suits
 by_three P r s t p (a ∷ b ∷ c ∷ []) (x ∷ y ∷ z ∷ []) suits is = p a b c x y z
 
 -- a carry is no pointer
-no_carry : (c : Alternative) (z : Value) (out : Outcome) (result : Result Value RunFault) (size : ℕ) (Sharp : Type 0) → IsOf c z → Answers out result size Sharp
+no_carry : (c : Alternative) (z : Value) (out : Outcome) (result : Result Value RunFault) (size : ℕ) (Sharp : Type 0)
+    → IsOf c z → Answers out result size Sharp
     → Answers (if is_place c then tells Kind else out) (if is_pointer z then Err Kind else result) size Sharp
 no_carry c z out result size Sharp is answers = let same = same_kind c z is in by_test (is_place c)
     (λ e. rw (e, sym same ∙ e) (fault_answers Kind size Sharp))
@@ -297,7 +314,8 @@ rule_answers op = by_pointers RuleAnswers add_answers subtract_answers equal_ans
 
 -- ---- at one alternative for each operand
 
-pub choice_answers : (op : Op) (sizes : List ℕ) (args : List Alternative) (values : List Value) → Chosen op sizes args values
+pub choice_answers : (op : Op) (sizes : List ℕ) (args : List Alternative) (values : List Value)
+    → Chosen op sizes args values
     → Answers (at_choice op sizes args) (outcome op sizes values) (size_of_result op sizes) (EachOnly args values)
 choice_answers op sizes args values chosen =
     let same : (is_place (alternative_at args 0) || is_place (alternative_at args 1) || is_place (alternative_at args 2)) ≡ (is_pointer (operand_at values 0) || is_pointer (operand_at values 1) || is_pointer (operand_at values 2)) =

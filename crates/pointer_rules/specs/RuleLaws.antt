@@ -77,7 +77,8 @@ pub record Answers (out : Outcome) (result : Result Value RunFault) (size : ℕ)
 pub fault_answers : (fault : RunFault) (size : ℕ) (Sharp : Type 0) → Answers (tells fault) (Err fault) size Sharp
 fault_answers fault size Sharp = record { is = tt; tells = is_new no_faults fault; only = λ sharp. (refl, refl) }
 
-pub value_answers : (x : Alternative) (value : Value) (size : ℕ) (Sharp : Type 0) → SuitsSize size x → IsOf x value → (Sharp → OnlyOf x value) → Answers (gives (alone x)) (Ok value) size Sharp
+pub value_answers : (x : Alternative) (value : Value) (size : ℕ) (Sharp : Type 0) → SuitsSize size x → IsOf x value
+    → (Sharp → OnlyOf x value) → Answers (gives (alone x)) (Ok value) size Sharp
 value_answers x value size Sharp suits is only = record {
   is = alone_is size x suits;
   tells = alone_covers x value is;
@@ -92,11 +93,13 @@ pub record Number (result : Option Stride) (size bits : ℕ) (Sharp : Type 0) : 
   pub covers : CoversWord words bits
   pub only : Sharp → IsOnly stride_sets words bits
 
-number_word : (result : Option Stride) (size bits : ℕ) (Sharp : Type 0) → Number result size bits Sharp → Answers (word result) (Ok (Int size bits)) size Sharp
+number_word : (result : Option Stride) (size bits : ℕ) (Sharp : Type 0) → Number result size bits Sharp
+    → Answers (word result) (Ok (Int size bits)) size Sharp
 number_word result size bits Sharp n =
     rw n.is (value_answers (Words n.words) (Int size bits) size Sharp n.sized (n.sized.size, n.covers) (λ sharp. (n.sized.size, n.only sharp)))
 
-number_pointer : (frame other : ℕ) (result : Option Stride) (size bits : ℕ) (Sharp : Type 0) → frame ≡ other → size ≡ 32 → Number result size bits Sharp
+number_pointer : (frame other : ℕ) (result : Option Stride) (size bits : ℕ) (Sharp : Type 0) → frame ≡ other → size ≡ 32
+    → Number result size bits Sharp
     → Answers (pointer frame result) (Ok (Ptr other bits)) size Sharp
 number_pointer frame other result size bits Sharp same whole n =
     rw n.is (value_answers (Places frame n.words) (Ptr other bits) size Sharp (n.sized, whole) (same, n.covers) (λ sharp. (same, n.only sharp)))
@@ -164,7 +167,9 @@ bit_number bit Sharp small =
     }
 
 -- unequal frames
-apart_number : (unequal bits : ℕ) (f g : ℕ) (result : Result Value RunFault) → (if f == g then Ok (Int 1 bits) else Ok (Int 1 unequal)) ≡ result → Ok (Int 1 (if f == g then bits else unequal)) ≡ result
+apart_number : (unequal bits : ℕ) (f g : ℕ) (result : Result Value RunFault)
+    → (if f == g then Ok (Int 1 bits) else Ok (Int 1 unequal)) ≡ result
+    → Ok (Int 1 (if f == g then bits else unequal)) ≡ result
 apart_number unequal bits f g result e = by_test (f == g) (λ h. rw h (rw h at e)) (λ h. rw h (rw h at e))
 
 pub equality_answers : (unequal : ℕ) (result : Option Stride) (bits : ℕ) (Sharp : Type 0) (a b : Alternative) (x y : Value) → unequal < 2
@@ -194,7 +199,8 @@ zero_bit bit k size covers not_one =
     let below : k < 2 ^ 1 = subst (λ s. k < 2 ^ s) size.size small in omega (arith, apart, below)
 
 -- both values, where the bit may be both
-both_answers : (size : ℕ) (Sharp : Type 0) (a b : Alternative) (value : Value) → SuitsSize size a → SuitsSize size b → Covers (joined (alone a) (alone b)) value → (Sharp → ⊥)
+both_answers : (size : ℕ) (Sharp : Type 0) (a b : Alternative) (value : Value) → SuitsSize size a → SuitsSize size b
+    → Covers (joined (alone a) (alone b)) value → (Sharp → ⊥)
     → Answers (gives (joined (alone a) (alone b))) (Ok value) size Sharp
 both_answers size Sharp a b value suits_a suits_b covers never =
     let alike = both_alone size a b suits_a suits_b in
@@ -204,7 +210,8 @@ both_answers size Sharp a b value suits_a suits_b covers never =
       only = λ sharp. absurd (never sharp);
     }
 
-chosen : (size : ℕ) (Sharp : Type 0) (bit : Stride) (k : ℕ) (a b : Alternative) (x y : Value) → IsOfSize stride_sets 1 bit → CoversWord bit k → (Sharp → IsOnly stride_sets bit k)
+chosen : (size : ℕ) (Sharp : Type 0) (bit : Stride) (k : ℕ) (a b : Alternative) (x y : Value)
+    → IsOfSize stride_sets 1 bit → CoversWord bit k → (Sharp → IsOnly stride_sets bit k)
     → SuitsSize size a → SuitsSize size b → IsOf a x → IsOf b y → (Sharp → OnlyOf a x) → (Sharp → OnlyOf b y)
     → Answers (gives (if has bit 1 then (if has bit 0 then joined (alone a) (alone b) else alone a) else alone b)) (Ok (if k == 1 then x else y)) size Sharp
 chosen size Sharp bit k a b x y of_bit covers only suits_a suits_b is_a is_b only_a only_b = by_test (k == 1)
@@ -220,7 +227,8 @@ chosen size Sharp bit k a b x y of_bit covers only suits_a suits_b is_a is_b onl
     (λ sharp. let one : 1 ≡ k = (only sharp).one 1 ((has_tells bit 1 of_bit.kept).0 f) in omega (arith, none, one))))
     (λ f. rw (e, f) (value_answers b y size Sharp suits_b is_b only_b)))
 
-pub choice_answers : (size : ℕ) (Sharp : Type 0) (c a b : Alternative) (z x y : Value) → SuitsSize 1 c → SuitsSize size a → SuitsSize size b
+pub choice_answers : (size : ℕ) (Sharp : Type 0) (c a b : Alternative) (z x y : Value) → SuitsSize 1 c
+    → SuitsSize size a → SuitsSize size b
     → IsOf c z → IsOf a x → IsOf b y → (Sharp → OnlyOf c z) → (Sharp → OnlyOf a x) → (Sharp → OnlyOf b y) → Answers (choice c a b) (choice_rule z x y) size Sharp
 choice_answers size Sharp (Words bit) a b (Int own k) x y suits_c suits_a suits_b is_c is_a is_b only_c only_a only_b =
     chosen size Sharp bit k a b x y suits_c is_c.1 (λ sharp. (only_c sharp).1) suits_a suits_b is_a is_b only_a only_b

@@ -21,7 +21,8 @@ CoversAt offsets offset = IsSomeAnd offsets (λ d. CoversWord d offset)
 -- ---- frames that ascend
 
 -- a frame below all is not pointed to
-absent : (least frame : ℕ) (places : List (ℕ × Stride)) → Ascends least places → frame ≤ least → offsets_in places frame ≡ None
+absent : (least frame : ℕ) (places : List (ℕ × Stride)) → Ascends least places → frame ≤ least
+    → offsets_in places frame ≡ None
 absent least frame [] ascends low = refl
 absent least frame (place ∷ places) ascends low = by_test (place.0 == frame)
     (λ e. absurd (let same : place.0 ≡ frame = eqb-true place.0 frame e in omega (arith, same, ascends.0, low)))
@@ -37,7 +38,8 @@ like : (a b : ℕ × Stride) → IsPlace a → IsPlace b → AreAlikeWords a.1 b
 like a b is_a is_b = record { first = is_a.offsets; second = is_b.offsets; size = is_a.size ∙ sym is_b.size }
 
 -- offsets that are there are there still
-still_there : (places : List (ℕ × Stride)) (new : ℕ × Stride) (frame offset : ℕ) → ArePlaces places → AreAscending places → IsPlace new
+still_there : (places : List (ℕ × Stride)) (new : ℕ × Stride) (frame offset : ℕ) → ArePlaces places
+    → AreAscending places → IsPlace new
     → CoversAt (offsets_in places frame) offset → CoversAt (offsets_in (with_place places new) frame) offset
 still_there [] new frame offset are ascending is there = absurd there
 still_there (place ∷ places) new frame offset are ascending is there = by_test (place.0 == new.0)
@@ -64,7 +66,8 @@ now_there (place ∷ places) new offset are is there = by_test (place.0 == new.0
     (λ g. rw (e, g, eq-eqb new.0 new.0 refl) there)
     (λ g. rw (e, g, e) (now_there places new offset are.1 is there)))
 
-pub with_place_are : (places : List (ℕ × Stride)) (new : ℕ × Stride) → ArePlaces places → IsPlace new → ArePlaces (with_place places new)
+pub with_place_are : (places : List (ℕ × Stride)) (new : ℕ × Stride) → ArePlaces places → IsPlace new
+    → ArePlaces (with_place places new)
 with_place_are [] new are is = (is, tt)
 with_place_are (place ∷ places) new are is = by_test (place.0 == new.0)
     (λ e. rw e (let size = stride_is_sets.joined_size place.1 new.1 are.0.offsets is.offsets (are.0.size ∙ sym is.size) in
@@ -73,7 +76,8 @@ with_place_are (place ∷ places) new are is = by_test (place.0 == new.0)
     (λ g. rw (e, g) (is, are))
     (λ g. rw (e, g) (are.0, with_place_are places new are.1 is)))
 
-with_place_above : (least : ℕ) (places : List (ℕ × Stride)) (new : ℕ × Stride) → Ascends least places → least < new.0 → Ascends least (with_place places new)
+with_place_above : (least : ℕ) (places : List (ℕ × Stride)) (new : ℕ × Stride) → Ascends least places → least < new.0
+    → Ascends least (with_place places new)
 with_place_above least [] new ascends above = (above, tt)
 with_place_above least (place ∷ places) new ascends above = by_test (place.0 == new.0)
     (λ e. rw e ascends)
@@ -85,7 +89,8 @@ with_place_above least (place ∷ places) new ascends above = by_test (place.0 =
           (let apart : place.0 ≢ new.0 = eqb-false place.0 new.0 e in let no_less = ltb-false new.0 place.0 g in omega (arith, apart, no_less)),
     )))
 
-with_place_ascending : (places : List (ℕ × Stride)) (new : ℕ × Stride) → AreAscending places → AreAscending (with_place places new)
+with_place_ascending : (places : List (ℕ × Stride)) (new : ℕ × Stride) → AreAscending places
+    → AreAscending (with_place places new)
 with_place_ascending [] new ascending = tt
 with_place_ascending (place ∷ places) new ascending = by_test (place.0 == new.0)
     (λ e. rw e ascending)
@@ -96,14 +101,16 @@ with_place_ascending (place ∷ places) new ascending = by_test (place.0 == new.
 
 -- ---- many more places
 
-all_still_there : (places others : List (ℕ × Stride)) (frame offset : ℕ) → ArePlaces places → AreAscending places → ArePlaces others
+all_still_there : (places others : List (ℕ × Stride)) (frame offset : ℕ) → ArePlaces places → AreAscending places
+    → ArePlaces others
     → CoversAt (offsets_in places frame) offset → CoversAt (offsets_in (with_places places others) frame) offset
 all_still_there places [] frame offset are ascending others_are there = there
 all_still_there places (new ∷ others) frame offset are ascending others_are there =
     all_still_there (with_place places new) others frame offset (with_place_are places new are others_are.0) (with_place_ascending places new ascending) others_are.1
     (still_there places new frame offset are ascending others_are.0 there)
 
-all_now_there : (places others : List (ℕ × Stride)) (frame offset : ℕ) → ArePlaces places → AreAscending places → ArePlaces others
+all_now_there : (places others : List (ℕ × Stride)) (frame offset : ℕ) → ArePlaces places → AreAscending places
+    → ArePlaces others
     → CoversAt (offsets_in others frame) offset → CoversAt (offsets_in (with_places places others) frame) offset
 all_now_there places [] frame offset are ascending others_are there = absurd there
 all_now_there places (new ∷ others) frame offset are ascending others_are there = by_test (new.0 == frame)
@@ -111,11 +118,13 @@ all_now_there places (new ∷ others) frame offset are ascending others_are ther
     (subst (λ f. CoversAt (offsets_in (with_place places new) f) offset) (eqb-true new.0 frame e) (now_there places new offset are others_are.0 (rw e at there))))
     (λ e. all_now_there (with_place places new) others frame offset (with_place_are places new are others_are.0) (with_place_ascending places new ascending) others_are.1 (rw e at there))
 
-with_places_are : (places others : List (ℕ × Stride)) → ArePlaces places → ArePlaces others → ArePlaces (with_places places others)
+with_places_are : (places others : List (ℕ × Stride)) → ArePlaces places → ArePlaces others
+    → ArePlaces (with_places places others)
 with_places_are places [] are others_are = are
 with_places_are places (new ∷ others) are others_are = with_places_are (with_place places new) others (with_place_are places new are others_are.0) others_are.1
 
-with_places_ascending : (places others : List (ℕ × Stride)) → AreAscending places → AreAscending (with_places places others)
+with_places_ascending : (places others : List (ℕ × Stride)) → AreAscending places
+    → AreAscending (with_places places others)
 with_places_ascending places [] ascending = ascending
 with_places_ascending places (new ∷ others) ascending = with_places_ascending (with_place places new) others (with_place_ascending places new ascending)
 
@@ -133,34 +142,39 @@ all_some_place places [] some = some
 all_some_place places (new ∷ others) some = all_some_place (with_place places new) others (some_place places new)
 
 -- the size of pointers goes over
-with_place_size : (places : List (ℕ × Stride)) (new : ℕ × Stride) (size : ℕ) → size ≡ 32 → IsPointerSize (with_place places new) size
+with_place_size : (places : List (ℕ × Stride)) (new : ℕ × Stride) (size : ℕ) → size ≡ 32
+    → IsPointerSize (with_place places new) size
 with_place_size [] new size same = same
 with_place_size (place ∷ places) new size same = by_test (place.0 == new.0)
     (λ e. rw e same)
     (λ e. by_test (nat_lt new.0 place.0) (λ g. rw (e, g) same) (λ g. rw (e, g) same))
 
-with_places_size : (places others : List (ℕ × Stride)) (size : ℕ) → IsPointerSize places size → IsPointerSize others size → IsPointerSize (with_places places others) size
+with_places_size : (places others : List (ℕ × Stride)) (size : ℕ) → IsPointerSize places size
+    → IsPointerSize others size → IsPointerSize (with_places places others) size
 with_places_size places [] size one two = one
 with_places_size places (new ∷ []) size one two = with_place_size places new size two
 with_places_size places (new ∷ other ∷ others) size one two = with_places_size (with_place places new) (other ∷ others) size (with_place_size places new size two) two
 
 -- ---- words
 
-words_left : (a b : Option Stride) (size own bits : ℕ) → IfSome a IsStride → IfSome b IsStride → IfSome a (λ d. d.size ≡ size) → IfSome b (λ d. d.size ≡ size)
+words_left : (a b : Option Stride) (size own bits : ℕ) → IfSome a IsStride → IfSome b IsStride
+    → IfSome a (λ d. d.size ≡ size) → IfSome b (λ d. d.size ≡ size)
     → IsSomeAnd a (λ d. (d.size ≡ own) × CoversWord d bits) → IsSomeAnd (either_words a b) (λ d. (d.size ≡ own) × CoversWord d bits)
 words_left None b size own bits is_a is_b size_a size_b there = absurd there
 words_left (Some a) None size own bits is_a is_b size_a size_b there = there
 words_left (Some a) (Some b) size own bits is_a is_b size_a size_b there =
     (there.0, (stride_is_order.left a b (record { first = is_a; second = is_b; size = size_a ∙ sym size_b })).1 bits there.1)
 
-words_right : (a b : Option Stride) (size own bits : ℕ) → IfSome a IsStride → IfSome b IsStride → IfSome a (λ d. d.size ≡ size) → IfSome b (λ d. d.size ≡ size)
+words_right : (a b : Option Stride) (size own bits : ℕ) → IfSome a IsStride → IfSome b IsStride
+    → IfSome a (λ d. d.size ≡ size) → IfSome b (λ d. d.size ≡ size)
     → IsSomeAnd b (λ d. (d.size ≡ own) × CoversWord d bits) → IsSomeAnd (either_words a b) (λ d. (d.size ≡ own) × CoversWord d bits)
 words_right a None size own bits is_a is_b size_a size_b there = absurd there
 words_right None (Some b) size own bits is_a is_b size_a size_b there = there
 words_right (Some a) (Some b) size own bits is_a is_b size_a size_b there =
     (size_a ∙ sym size_b ∙ there.0, (stride_is_order.right a b (record { first = is_a; second = is_b; size = size_a ∙ sym size_b })).1 bits there.1)
 
-words_are : (a b : Option Stride) (size : ℕ) → IfSome a IsStride → IfSome b IsStride → IfSome a (λ d. d.size ≡ size) → IfSome b (λ d. d.size ≡ size)
+words_are : (a b : Option Stride) (size : ℕ) → IfSome a IsStride → IfSome b IsStride → IfSome a (λ d. d.size ≡ size)
+    → IfSome b (λ d. d.size ≡ size)
     → IfSome (either_words a b) IsStride × IfSome (either_words a b) (λ d. d.size ≡ size)
 words_are None None size is_a is_b size_a size_b = (tt, tt)
 words_are None (Some b) size is_a is_b size_a size_b = (is_b, size_b)

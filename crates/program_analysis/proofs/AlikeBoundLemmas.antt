@@ -45,7 +45,8 @@ system_alike o other facts alike =
     ap (λ (costs : List ℕ). made costs (shape_of o) (length o.nodes)) alike.costs ∙ by_shape o other alike.shape (made (costs_of other))
 
 -- the path bound is the same
-pub bounded_alike : (o other : Outlined) (given : Reported) (pivots : ℕ) → AreAlike o other → bounded o given pivots ≡ bounded other given pivots
+pub bounded_alike : (o other : Outlined) (given : Reported) (pivots : ℕ) → AreAlike o other
+    → bounded o given pivots ≡ bounded other given pivots
 bounded_alike o other given pivots alike =
     ap (λ (s : System). with_path_bound given (bound_of s.program (ended s.program s.openings pivots))) (system_alike o other given.facts alike)
 

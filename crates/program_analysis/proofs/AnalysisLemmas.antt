@@ -87,7 +87,8 @@ module _ (parts : StepperParts) (o other : Outlined) (policy : Policy) (turns : 
   twins : AreTwins four_recording o other
   twins = four_twins o other alike.shape
 
-  explored_along : (events : List Event) (pool : PoolOf) → IsExploration parts o policy turns events pool → IsExploration parts other policy turns events (along pool other)
+  explored_along : (events : List Event) (pool : PoolOf) → IsExploration parts o policy turns events pool
+      → IsExploration parts other policy turns events (along pool other)
   explored_along events pool explored =
       subst (λ (first : PoolOf). IsPolicyRun stepped_by parts_order four_order four_recording policy turns first events (along pool other)) (opened_along stepped_by parts_order four_order four_recording parts o other twins)
       (run_along stepped_by parts_order four_order four_recording policy turns events (first_pool parts o) pool other twins explored)
@@ -135,7 +136,8 @@ same_scope : (pool : PoolOf) (a b : ℕ) → IsLeftIn pool a → IsLeftIn pool b
 same_scope pool a b (spot, first, is) (place, second, was) =
     is ∙ ap (λ (s : Spot MemoryParts FourRecorders). slice_index (shape_of pool.outline).own s.node) (same_Some spot place (sym first ∙ second)) ∙ sym was
 
-one_answer : (parts : StepperParts) (o : Outlined) (policy : Policy) (turns : ℕ) (a b : Answer) → IsFound parts o policy turns a → IsFound parts o policy turns b → a ≡ b
+one_answer : (parts : StepperParts) (o : Outlined) (policy : Policy) (turns : ℕ) (a b : Answer)
+    → IsFound parts o policy turns a → IsFound parts o policy turns b → a ≡ b
 one_answer parts o policy turns (Told report) (Told other) first second =
     let pools : first.pool ≡ second.pool = same_pool parts o policy turns first.events second.events first.pool second.pool first.explored second.explored in
     ap Told (first.told ∙ ap (λ (pool : PoolOf). told_report o (found_of pool)) pools ∙ sym second.told)
@@ -169,7 +171,8 @@ longer_analysis parts o policy turns report closed =
 
 -- two explorations that leave no place, in so many turns and in more
 module _ (parts : StepperParts) (o : Outlined) (policy : Policy) where
-  events_on : (turns more : ℕ) (events others : List Event) (pool pool' : PoolOf) → turns ≤ more → IsExploration parts o policy turns events pool → pool.spots ≡ []
+  events_on : (turns more : ℕ) (events others : List Event) (pool pool' : PoolOf) → turns ≤ more
+      → IsExploration parts o policy turns events pool → pool.spots ≡ []
       → IsExploration parts o policy more others pool' → events ≡ others
   events_on turns more events others pool pool' enough first none second =
       let within = run_within stepped_by parts_order four_order four_recording policy turns events (first_pool parts o) pool (omega arith) first in

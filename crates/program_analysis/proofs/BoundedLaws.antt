@@ -50,7 +50,8 @@ use Rattle.program_analysis.specs.BoundedSound.{IsSound, IsRightFor}
 
 -- ---- a program has a run
 
-lows_within : (program : NumberedProgram) (rows : List InputRow) → All (KeepsInput program) rows → AreWithin rows (lows rows)
+lows_within : (program : NumberedProgram) (rows : List InputRow) → All (KeepsInput program) rows
+    → AreWithin rows (lows rows)
 lows_within program [] each = tt
 lows_within program (row ∷ rows) each = (
   record { least = ≤ℤ_refl row.low; most = (All-head (KeepsInput program) row rows each).ordered },
@@ -58,10 +59,12 @@ lows_within program (row ∷ rows) each = (
 )
 
 -- the least numbers of the ranges are inputs
-pub low_start : (program : NumberedProgram) (rows : List InputRow) → All (KeepsInput program) rows → IsStart program rows (lone_start program rows)
+pub low_start : (program : NumberedProgram) (rows : List InputRow) → All (KeepsInput program) rows
+    → IsStart program rows (lone_start program rows)
 low_start program rows each = record { numbers = lows rows; within = lows_within program rows each; starts = refl }
 
-alarm_of : (facts : List Fact) (trace : List ℕ) (fault : Option RunFault) (outcome : Outcome) → IsOutcomeOf fault outcome → HasFaultAlarm facts trace fault → HasAlarm trace outcome facts
+alarm_of : (facts : List Fact) (trace : List ℕ) (fault : Option RunFault) (outcome : Outcome)
+    → IsOutcomeOf fault outcome → HasFaultAlarm facts trace fault → HasAlarm trace outcome facts
 alarm_of facts trace None outcome (outputs, is) alarm = subst (λ (end : Outcome). HasAlarm trace end facts) (sym is) tt
 alarm_of facts trace (Some fault) outcome is alarm = subst (λ (end : Outcome). HasAlarm trace end facts) (sym is) alarm
 
@@ -142,7 +145,8 @@ module _ (parts : StepperParts) (o : Outlined) (policy : Policy) (turns : ℕ) (
         has_run.start has_run.trace has_run.fault has_run.starts (one_history (seen parts.checked) parts.rows lone) has_run.passes)
 
     -- where there is one input alone, both bounds are one number
-    pub agree_in : AreLone parts.rows → (report : Reported) → report ≡ bounded o given pivots → HasPathBound (λ b. b.0 ≡ report.count_bound) report
+    pub agree_in : AreLone parts.rows → (report : Reported) → report ≡ bounded o given pivots
+        → HasPathBound (λ b. b.0 ≡ report.count_bound) report
     agree_in lone report is =
         let alone = lone_in lone in
         subst (λ (r : Reported). HasPathBound (λ b. b.0 ≡ r.count_bound) r) (sym is)

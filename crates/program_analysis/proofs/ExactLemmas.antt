@@ -34,7 +34,8 @@ use Rattle.program_analysis.specs.ExactLaws.{IsToldExactly, LoneInputIsToldExact
 
 -- ---- why
 
-as_many : (nodes : List Node) (numbers : List ℕ) (run : List Node) → AreNumbersOf nodes numbers run → length numbers ≡ length run
+as_many : (nodes : List Node) (numbers : List ℕ) (run : List Node) → AreNumbersOf nodes numbers run
+    → length numbers ≡ length run
 as_many nodes [] [] all = refl
 as_many nodes [] (node ∷ run) all = absurd all
 as_many nodes (n ∷ numbers) [] all = absurd all
@@ -47,19 +48,22 @@ module _ (one_end : HasOneEnd) (parts : StepperParts) (o : Outlined) (policy : P
   is_sound : IsSoundSystem (stepped_by parts).system o (told_report o (found_of closed.pool))
   is_sound = sound_events stepped_by parts_order closed.events parts o closed.pool parts_are_order (λ other kept. is_part_machine other.checked other.graph other.rows kept) fit.kept fit.outline (along_fit parts o fit) happen closed.empty
 
-  told_alone : (c : List RunEvent) (nodes : List ℕ) (fault : Option RunFault) → (stepped_by parts).system.starts c → Passes (stepped_by parts).system 0 c nodes fault
+  told_alone : (c : List RunEvent) (nodes : List ℕ) (fault : Option RunFault) → (stepped_by parts).system.starts c
+      → Passes (stepped_by parts).system 0 c nodes fault
       → LoneRun (stepped_by parts).system o (told_report o (found_of closed.pool)) nodes
   told_alone c nodes fault starts passes =
       lone_report stepped_by parts_order closed.events parts o closed.pool parts_are_order (λ other kept. is_part_machine other.checked other.graph other.rows kept) fit.kept fit.outline (along_fit parts o fit) happen closed.empty
       c nodes fault starts (one_history (seen parts.checked) parts.rows lone) passes
 
   -- the run from the start of a point at node 0
-  begins : (c : List RunEvent) → (stepped_by parts).system.starts c → moment_at parts.graph 0 c ≡ lone_start (seen parts.checked) parts.rows
+  begins : (c : List RunEvent) → (stepped_by parts).system.starts c
+      → moment_at parts.graph 0 c ≡ lone_start (seen parts.checked) parts.rows
   begins c starts =
       let expansion = fit.kept.machine.promises.points.expands (seen parts.checked) parts.graph fit.kept.machine.keeps fit.kept.machine.is in
       ap (λ (node : Node). At node c) expansion.first ∙ (alone (seen parts.checked) parts.rows lone).only (At first_node c) starts
 
-  told_so : (nodes : List ℕ) → LoneRun (stepped_by parts).system o (told_report o (found_of closed.pool)) nodes → EndsIn parts turns → IsToldExactly parts o turns report
+  told_so : (nodes : List ℕ) → LoneRun (stepped_by parts).system o (told_report o (found_of closed.pool)) nodes
+      → EndsIn parts turns → IsToldExactly parts o turns report
   told_so nodes one ended =
       let so : RunsSo (seen parts.checked) parts.graph 0 one.start nodes one.fault = passes_runs (seen parts.checked) parts.graph parts.rows one.passes in
       let runs : Runs (seen parts.checked) parts.graph.nodes (lone_start (seen parts.checked) parts.rows) nodes so.outcome =

@@ -35,15 +35,18 @@ module _ (pool : PoolOf) (o : Outlined) (policy : Policy) (turns : ℕ) (events 
       let turned : HasTurns turns pool = run_turns stepped_by parts_order four_order four_recording policy turns events (first_pool pool.stepper o) pool (omega arith) ended.explored in
       has_room (length o.nodes) pool.steps turns few turned.within most
 
-  pub closed_in : (report : Reported) → report ≡ told_report o (found_of pool) → IsClosedBy pool.stepper o policy turns report events
+  pub closed_in : (report : Reported) → report ≡ told_report o (found_of pool)
+      → IsClosedBy pool.stepper o policy turns report events
   closed_in report told = record { closed = record { events = events; pool = pool; explored = ended.explored; empty = ended.empty; told = told }; events_are = refl }
 
-written_answer : (o : Outlined) → All (λ row. IsNodeName row.name.items) o.nodes → (answer : Answer) → IfTold answer (IsWritableOf o) → IfTold answer IsWritable
+written_answer : (o : Outlined) → All (λ row. IsNodeName row.name.items) o.nodes → (answer : Answer)
+    → IfTold answer (IsWritableOf o) → IfTold answer IsWritable
 written_answer o named (Told report) writable = writable named
 written_answer o named (Unbounded scope) writable = tt
 
 -- an answer of nodes with such names is a report that some text spells
-pub written : {E : Type 0} (o : Outlined) → All (λ row. IsNodeName row.name.items) o.nodes → (result : Result Analysed E) → IfOk result (λ analysed. IfTold (answer_of analysed) (IsWritableOf o))
+pub written : {E : Type 0} (o : Outlined) → All (λ row. IsNodeName row.name.items) o.nodes
+    → (result : Result Analysed E) → IfOk result (λ analysed. IfTold (answer_of analysed) (IsWritableOf o))
     → IfOk result (λ analysed. IfTold (answer_of analysed) IsWritable)
 written o named (Ok analysed) writable = written_answer o named (answer_of analysed) writable
 written o named (Err error) writable = tt

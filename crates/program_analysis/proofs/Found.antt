@@ -15,12 +15,14 @@ abbrev pub made_with : List Event → ℤ × List ℤ → Certificate
 made_with events duals = record { events = events; scale = duals.0; multipliers = duals.1 }
 
 -- a certificate with these parts is that one
-pub same_certificate : (cert : Certificate) (events : List Event) (scale : ℤ) (multipliers : List ℤ) → cert.events ≡ events → cert.scale ≡ scale → cert.multipliers ≡ multipliers
+pub same_certificate : (cert : Certificate) (events : List Event) (scale : ℤ) (multipliers : List ℤ)
+    → cert.events ≡ events → cert.scale ≡ scale → cert.multipliers ≡ multipliers
     → cert ≡ made_with events (scale, multipliers)
 same_certificate cert events scale multipliers e s m = λ i. record { events = e i; scale = s i; multipliers = m i }
 
 module _ (parts : StepperParts) (o : Outlined) (policy : Policy) (turns pivots : ℕ) (given : Reported) (events : List Event) (closed : IsClosedBy parts o policy turns given events) where
-  found_at : (analysed : BoundedAnalysis) → IsAnsweredWith analysed (IsBoundWith o given events pivots) → IsFoundWith parts o policy turns pivots analysed
+  found_at : (analysed : BoundedAnalysis) → IsAnsweredWith analysed (IsBoundWith o given events pivots)
+      → IsFoundWith parts o policy turns pivots analysed
   found_at (Told report cert) bound = record {
     given = given;
     closed = closed.closed;
@@ -28,7 +30,8 @@ module _ (parts : StepperParts) (o : Outlined) (policy : Policy) (turns pivots :
   }
   found_at (Unbounded scope) bound = absurd bound
 
-  pub found_bounded : {E : Type 0} (result : Result BoundedAnalysis E) → IfOk result (λ analysed. IsAnsweredWith analysed (IsBoundWith o given events pivots))
+  pub found_bounded : {E : Type 0} (result : Result BoundedAnalysis E)
+      → IfOk result (λ analysed. IsAnsweredWith analysed (IsBoundWith o given events pivots))
       → IfOk result (λ analysed. IsFoundWith parts o policy turns pivots analysed)
   found_bounded (Ok analysed) bound = found_at analysed bound
   found_bounded (Err error) bound = tt

@@ -76,7 +76,8 @@ over_stays program (suc t) outcome = over_stays program t outcome
 over_or_at : (node : Node) (history : List RunEvent) (outcome : Outcome) → Over outcome ≡ At node history → ⊥
 over_or_at node history outcome e = cc
 
-trace_long : (program : NumberedProgram) (t : ℕ) (moment : Moment) (node : Node) (history : List RunEvent) → after program t moment ≡ At node history → length (trace program t moment) ≡ t
+trace_long : (program : NumberedProgram) (t : ℕ) (moment : Moment) (node : Node) (history : List RunEvent)
+    → after program t moment ≡ At node history → length (trace program t moment) ≡ t
 trace_long program zero moment node history at = refl
 trace_long program (suc t) (At first events) node history at = ap suc (trace_long program t (step program (At first events)) node history at)
 trace_long program (suc t) (Over outcome) node history at = absurd (over_or_at node history outcome (sym (over_stays program t outcome) ∙ at))
@@ -117,7 +118,9 @@ module _ (parts : StepperParts) (o : Outlined) (fit : AreFit parts o) (lone : Ar
   lone_is_run = program_run fit.kept.machine.promises.points (seen parts.checked) parts.graph fit.kept.machine.keeps fit.kept.machine.is parts.rows (lone_start (seen parts.checked) parts.rows) one_start.is
 
   -- each exploration is exactly where the run is
-  pub sharp_pool : (events : List Event) (pool : PoolOf) → HappenAll stepped_by parts_order four_order four_recording (first_pool parts o) events pool → IsSharp (stepped_by parts) four_recording pool lone_run
+  pub sharp_pool : (events : List Event) (pool : PoolOf)
+      → HappenAll stepped_by parts_order four_order four_recording (first_pool parts o) events pool
+      → IsSharp (stepped_by parts) four_recording pool lone_run
   sharp_pool events pool happen =
       let along = along_fit parts o fit in
       let laws : IsMachine MemoryParts (List RunEvent) parts_order (stepped_by parts) = is_part_machine parts.checked parts.graph parts.rows fit.kept in
@@ -129,14 +132,17 @@ module _ (parts : StepperParts) (o : Outlined) (fit : AreFit parts o) (lone : Ar
       happen
 
   module _ (policy : Policy) (turns : ℕ) where
-    pub happened : (events : List Event) (pool : PoolOf) → IsExploration parts o policy turns events pool → HappenAll stepped_by parts_order four_order four_recording (first_pool parts o) events pool
+    pub happened : (events : List Event) (pool : PoolOf) → IsExploration parts o policy turns events pool
+        → HappenAll stepped_by parts_order four_order four_recording (first_pool parts o) events pool
     happened events pool explored = run_happens stepped_by parts_order four_order four_recording policy turns events (first_pool parts o) pool explored
 
-    turned : (events : List Event) (pool : PoolOf) → IsExploration parts o policy turns events pool → HasTurns turns pool
+    turned : (events : List Event) (pool : PoolOf) → IsExploration parts o policy turns events pool
+        → HasTurns turns pool
     turned events pool explored = run_turns stepped_by parts_order four_order four_recording policy turns events (first_pool parts o) pool (omega arith) explored
 
     -- where no place is left, the run has ended
-    pub over_run : (pool : PoolOf) (k n : ℕ) (history : List RunEvent) → lone_run k ≡ Some (n, history) → lone_run (suc k) ≡ None → IsSharpOver (stepped_by parts) four_recording pool (trace_to lone_run k) n history
+    pub over_run : (pool : PoolOf) (k n : ℕ) (history : List RunEvent) → lone_run k ≡ Some (n, history)
+        → lone_run (suc k) ≡ None → IsSharpOver (stepped_by parts) four_recording pool (trace_to lone_run k) n history
         → HasTurns turns pool → EndsIn parts turns
     over_run pool k n history here over sharp turns_of =
         let so = over_is_over fit.kept.machine.promises.points (seen parts.checked) parts.graph fit.kept.machine.keeps fit.kept.machine.is parts.rows (lone_start (seen parts.checked) parts.rows) one_start.is k n history here over in
@@ -145,12 +151,14 @@ module _ (parts : StepperParts) (o : Outlined) (fit : AreFit parts o) (lone : Ar
         let most : pool.steps ≤ turns = turns_of.within in
         record { nodes = reverse (n ∷ trace_to lone_run k); outcome = so.outcome; runs = so.runs; within = omega (arith, long, count, most) }
 
-    closed_run : (events : List Event) (pool : PoolOf) → pool.spots ≡ [] → HasTurns turns pool → IsSharp (stepped_by parts) four_recording pool lone_run → EndsIn parts turns
+    closed_run : (events : List Event) (pool : PoolOf) → pool.spots ≡ [] → HasTurns turns pool
+        → IsSharp (stepped_by parts) four_recording pool lone_run → EndsIn parts turns
     closed_run events pool empty turns_of (inl (k, n, history, here, sharp)) = absurd (no_spots sharp.spot (sym empty ∙ sharp.one))
     closed_run events pool empty turns_of (inr (k, n, history, here, over, sharp)) = over_run pool k n history here over sharp turns_of
 
     -- where one is left, the run goes on after so many nodes
-    past_run : (pool : PoolOf) (scope k n : ℕ) (history : List RunEvent) → lone_run k ≡ Some (n, history) → IsSharpAt (stepped_by parts) four_recording pool (trace_to lone_run k) n history
+    past_run : (pool : PoolOf) (scope k n : ℕ) (history : List RunEvent) → lone_run k ≡ Some (n, history)
+        → IsSharpAt (stepped_by parts) four_recording pool (trace_to lone_run k) n history
         → pool.steps ≡ turns → IsLeftIn pool scope → pool.outline ≡ o → GoesPast parts o turns scope
     past_run pool scope k n history here sharp used (spot, first, is) same =
         let at : after (seen parts.checked) k (lone_start (seen parts.checked) parts.rows) ≡ At (node_number parts.graph n) history =
@@ -183,7 +191,8 @@ module _ (parts : StepperParts) (o : Outlined) (fit : AreFit parts o) (lone : Ar
             go (inr (inl ends, over)) = ends.from
             go (inr (inr (fault, fails), over)) = fails.from
 
-    left_run : (pool : PoolOf) (scope : ℕ) → HasTurns turns pool → pool.outline ≡ o → IsLeftIn pool scope → IsSharp (stepped_by parts) four_recording pool lone_run → GoesPast parts o turns scope
+    left_run : (pool : PoolOf) (scope : ℕ) → HasTurns turns pool → pool.outline ≡ o → IsLeftIn pool scope
+        → IsSharp (stepped_by parts) four_recording pool lone_run → GoesPast parts o turns scope
     left_run pool scope turns_of same left (inl (k, n, history, here, sharp)) =
         elim turns_of.used [
           | inl none ↦ absurd (no_spots sharp.spot (sym none ∙ sharp.one))

@@ -26,12 +26,14 @@ pub node_name : {text : List ℕ} → IsGraphName text → IsNodeName text
 node_name (graphs.of_entry text path) = of_entry text (path_name path)
 node_name (graphs.of_block text b path low) = of_block text b (path_name path) low
 
-rows_named : (rows : List NodeRow) → All IsGraphName (map (λ row. row.name.items) rows) → All (λ (row : NodeRow). IsNodeName row.name.items) rows
+rows_named : (rows : List NodeRow) → All IsGraphName (map (λ row. row.name.items) rows)
+    → All (λ (row : NodeRow). IsNodeName row.name.items) rows
 rows_named [] spelled = All-nil (λ (row : NodeRow). IsNodeName row.name.items)
 rows_named (row ∷ rows) spelled = All-cons (λ (r : NodeRow). IsNodeName r.name.items) row rows
     (node_name (All-head IsGraphName row.name.items (map (λ r. r.name.items) rows) spelled))
     (rows_named rows (All-tail IsGraphName row.name.items (map (λ r. r.name.items) rows) spelled))
 
 -- what holds of the names of a graph's nodes holds of the rows that have them
-pub names_spelled : (o : Outlined) (names : List (List ℕ)) → map (λ row. row.name.items) o.nodes ≡ names → All IsGraphName names → All (λ (row : NodeRow). IsNodeName row.name.items) o.nodes
+pub names_spelled : (o : Outlined) (names : List (List ℕ)) → map (λ row. row.name.items) o.nodes ≡ names
+    → All IsGraphName names → All (λ (row : NodeRow). IsNodeName row.name.items) o.nodes
 names_spelled o names same spelled = rows_named o.nodes (subst (All IsGraphName) (sym same) spelled)

@@ -20,12 +20,14 @@ use Rattle.domain_core.specs.Outlines.{Outlined, with_cost}
 use Rattle.program_analysis.specs.Pricing.{IsPricedAs, ArePaid}
 
 -- what costs have no part in stays
-stays : {X : Type 0} (part : NodeRow → X) → ((row : NodeRow) (cost : ℕ) → part (record row { cost = cost }) ≡ part row) → (nodes : List NodeRow) (n cost : ℕ) → map part (with_cost nodes n cost) ≡ map part nodes
+stays : {X : Type 0} (part : NodeRow → X) → ((row : NodeRow) (cost : ℕ) → part (record row { cost = cost }) ≡ part row)
+    → (nodes : List NodeRow) (n cost : ℕ) → map part (with_cost nodes n cost) ≡ map part nodes
 stays part same [] n cost = refl
 stays part same (row ∷ nodes) zero cost = ap (λ x. x ∷ map part nodes) (same row cost)
 stays part same (row ∷ nodes) (suc n) cost = ap (λ xs. part row ∷ xs) (stays part same nodes n cost)
 
-pub priced_more : (old now : Outlined) (n cost : ℕ) → IsPricedAs old now → IsPricedAs old (record now { nodes = with_cost now.nodes n cost })
+pub priced_more : (old now : Outlined) (n cost : ℕ) → IsPricedAs old now
+    → IsPricedAs old (record now { nodes = with_cost now.nodes n cost })
 priced_more old now n cost priced = record {
   edges = priced.edges;
   own = stays (λ row. row.scope) (λ row cost. refl) now.nodes n cost ∙ priced.own;
@@ -41,12 +43,14 @@ priced_count old new priced =
     sym (length-map new.nodes (λ row. row.scope)) ∙ ap length priced.own ∙ length-map old.nodes (λ row. row.scope)
 
 -- what the node costs, and each other
-pub cost_here : (nodes : List NodeRow) (n cost : ℕ) → n < length nodes → slice_index (map (λ row. row.cost) (with_cost nodes n cost)) n ≡ cost
+pub cost_here : (nodes : List NodeRow) (n cost : ℕ) → n < length nodes
+    → slice_index (map (λ row. row.cost) (with_cost nodes n cost)) n ≡ cost
 cost_here [] n cost low = absurd (omega (arith, low))
 cost_here (row ∷ nodes) zero cost low = refl
 cost_here (row ∷ nodes) (suc n) cost low = cost_here nodes n cost (omega (arith, low))
 
-pub cost_elsewhere : (nodes : List NodeRow) (n k cost : ℕ) → k ≢ n → slice_index (map (λ row. row.cost) (with_cost nodes n cost)) k ≡ slice_index (map (λ row. row.cost) nodes) k
+pub cost_elsewhere : (nodes : List NodeRow) (n k cost : ℕ) → k ≢ n
+    → slice_index (map (λ row. row.cost) (with_cost nodes n cost)) k ≡ slice_index (map (λ row. row.cost) nodes) k
 cost_elsewhere [] n k cost other = refl
 cost_elsewhere (row ∷ nodes) zero zero cost other = absurd (other refl)
 cost_elsewhere (row ∷ nodes) zero (suc k) cost other = refl
@@ -56,7 +60,8 @@ cost_elsewhere (row ∷ nodes) (suc n) (suc k) cost other = cost_elsewhere nodes
 -- ---- nodes that have their costs
 
 -- one more node does
-pub paid_more : (graph : GraphParts) (costs : CostTable) (k cost : ℕ) (nodes : List NodeRow) → ArePaid graph costs k nodes → k < length nodes
+pub paid_more : (graph : GraphParts) (costs : CostTable) (k cost : ℕ) (nodes : List NodeRow)
+    → ArePaid graph costs k nodes → k < length nodes
     → ((program : NumberedProgram) (node : Node) → IsGraph program graph → slice_get graph.nodes k ≡ Some node → cost ≡ node_cost program costs node)
     → ArePaid graph costs (k + 1) (with_cost nodes k cost)
 paid_more graph costs k cost nodes paid low costs_so program node n is less at = elim (cases_eq n k) [
@@ -67,7 +72,8 @@ paid_more graph costs k cost nodes paid low costs_so program node n is less at =
 ]
 
 -- and so do all
-pub paid_all : (program : NumberedProgram) (graph : GraphParts) (costs : CostTable) (nodes : List NodeRow) → IsGraph program graph → length nodes ≡ length graph.nodes → ArePaid graph costs (length graph.nodes) nodes
+pub paid_all : (program : NumberedProgram) (graph : GraphParts) (costs : CostTable) (nodes : List NodeRow)
+    → IsGraph program graph → length nodes ≡ length graph.nodes → ArePaid graph costs (length graph.nodes) nodes
     → map (λ row. row.cost) nodes ≡ map (node_cost program costs) graph.nodes
 paid_all program graph costs nodes is long paid =
     let mine : List ℕ = map (λ row. row.cost) nodes in

@@ -49,7 +49,8 @@ module _ (program : NumberedProgram) (graph : GraphParts) (rows : List InputRow)
       (machines_are_twins program checked other first second graph rows) first_beside run
 
   -- what is found of the parts of a program is found of other parts of it
-  pub found_of_other : (answer : Answer) → IsFound (parts_with checked) o policy turns answer → IsFound (parts_with other) o policy turns answer
+  pub found_of_other : (answer : Answer) → IsFound (parts_with checked) o policy turns answer
+      → IsFound (parts_with other) o policy turns answer
   found_of_other (Told report) h =
       let also = explored h.pool h.events h.explored in
       record {

@@ -24,7 +24,8 @@ use Rattle.program_analysis.specs.SoundLaws.{IsOutcomeOf, passes_runs, same_cost
 
 -- ---- soundness
 
-alarm_of : (facts : List Fact) (trace : List ℕ) (fault : Option RunFault) (outcome : Outcome) → IsOutcomeOf fault outcome → HasFaultAlarm facts trace fault → HasAlarm trace outcome facts
+alarm_of : (facts : List Fact) (trace : List ℕ) (fault : Option RunFault) (outcome : Outcome)
+    → IsOutcomeOf fault outcome → HasFaultAlarm facts trace fault → HasAlarm trace outcome facts
 alarm_of facts trace None outcome (outputs, is) alarm = subst (λ (end : Outcome). HasAlarm trace end facts) (sym is) tt
 alarm_of facts trace (Some fault) outcome is alarm = subst (λ (end : Outcome). HasAlarm trace end facts) (sym is) alarm
 

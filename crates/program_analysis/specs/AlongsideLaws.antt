@@ -6,7 +6,8 @@ use Rattle.std.specs.List.{AllZip, remove}
 use Rattle.std.proofs.lemmas.Option.{same_Some, none-some}
 
 module _ {A B : Type 0} (R : A → B → Type 0) where
-  pub zip_append : (xs more : List A) (ys others : List B) → AllZip R xs ys → AllZip R more others → AllZip R (xs ++ more) (ys ++ others)
+  pub zip_append : (xs more : List A) (ys others : List B) → AllZip R xs ys → AllZip R more others
+      → AllZip R (xs ++ more) (ys ++ others)
   zip_append [] more [] others h k = k
   zip_append [] more (y ∷ ys) others h k = absurd h
   zip_append (x ∷ xs) more [] others h k = absurd h
@@ -32,7 +33,8 @@ module _ {A B : Type 0} (R : A → B → Type 0) where
   zip_drop (suc n) (x ∷ xs) [] h = absurd h
   zip_drop (suc n) (x ∷ xs) (y ∷ ys) h = zip_drop n xs ys h.1
 
-  pub zip_set : (xs : List A) (ys : List B) (i : ℕ) (x : A) (y : B) → AllZip R xs ys → R x y → AllZip R (slice_set xs i x) (slice_set ys i y)
+  pub zip_set : (xs : List A) (ys : List B) (i : ℕ) (x : A) (y : B) → AllZip R xs ys → R x y
+      → AllZip R (slice_set xs i x) (slice_set ys i y)
   zip_set [] [] i x y h r = tt
   zip_set [] (b ∷ ys) i x y h r = absurd h
   zip_set (a ∷ xs) [] i x y h r = absurd h
@@ -43,7 +45,8 @@ module _ {A B : Type 0} (R : A → B → Type 0) where
   zip_remove xs ys i h = zip_append (take i xs) (drop (suc i) xs) (take i ys) (drop (suc i) ys) (zip_take i xs ys h) (zip_drop (suc i) xs ys h)
 
   -- the element at a place, and the one that goes with it
-  pub zip_at : (xs : List A) (ys : List B) (i : ℕ) (x : A) → AllZip R xs ys → slice_get xs i ≡ Some x → (y : B) × (slice_get ys i ≡ Some y) × R x y
+  pub zip_at : (xs : List A) (ys : List B) (i : ℕ) (x : A) → AllZip R xs ys → slice_get xs i ≡ Some x
+      → (y : B) × (slice_get ys i ≡ Some y) × R x y
   zip_at [] [] i x h at = absurd (none-some x at)
   zip_at [] (b ∷ ys) i x h at = absurd h
   zip_at (a ∷ xs) [] i x h at = absurd h

@@ -34,7 +34,8 @@ abbrev pub IsExploration : StepperParts → Outlined → Policy → ℕ → List
 IsExploration parts o policy turns events pool = IsPolicyRun stepped_by parts_order four_order four_recording policy turns (first_pool parts o) events pool
 
 -- no place is left in the end, and the report tells what was collected
-pub record IsClosed (parts : StepperParts) (o : Outlined) (policy : Policy) (turns : ℕ) (report : Reported) : Type 0 where
+pub record IsClosed (parts : StepperParts) (o : Outlined) (policy : Policy) (turns : ℕ)
+    (report : Reported) : Type 0 where
   pub events : List Event
   pub pool : PoolOf
   pub explored : IsExploration parts o policy turns events pool
@@ -42,7 +43,8 @@ pub record IsClosed (parts : StepperParts) (o : Outlined) (policy : Policy) (tur
   pub told : report ≡ told_report o (found_of pool)
 
 -- so it is, by these events
-pub record IsClosedBy (parts : StepperParts) (o : Outlined) (policy : Policy) (turns : ℕ) (report : Reported) (events : List Event) : Type 0 where
+pub record IsClosedBy (parts : StepperParts) (o : Outlined) (policy : Policy) (turns : ℕ) (report : Reported)
+    (events : List Event) : Type 0 where
   pub closed : IsClosed parts o policy turns report
   pub events_are : closed.events ≡ events
 

@@ -35,7 +35,8 @@ pub record AreAlike (o other : Outlined) : Type 0 where
 abbrev pub PartsHaveOneAnalysis : Type 0
 PartsHaveOneAnalysis = (parts : StepperParts) (o other : Outlined) (policy : Policy) (turns : ℕ) (a b : Answer) → AreAlike o other → IsFound parts o policy turns a → IsFound parts other policy turns b → a ≡ b
 
--- a report is found in no fewer turns than its exploration makes steps, and in each number of turns that is not below them
+-- a report is found in no fewer turns than its exploration makes steps, and in each number of turns that is not below
+-- them
 abbrev pub StaysFound : Type 0
 StaysFound = (parts : StepperParts) (o : Outlined) (policy : Policy) (turns : ℕ) (report : Reported) (closed : IsClosed parts o policy turns report)
     → (closed.pool.steps ≤ turns) × ((more : ℕ) → closed.pool.steps ≤ more → IsClosed parts o policy more report)
@@ -67,7 +68,8 @@ abbrev named_row : NodeRow → NamedNode
 named_row row = record { scope = row.scope; cost = row.cost; name = row.name.items }
 
 -- rows that have one scope, one cost and one name
-pub same_named : (xs ys : List NodeRow) → map (λ row. row.scope) xs ≡ map (λ row. row.scope) ys → map (λ row. row.cost) xs ≡ map (λ row. row.cost) ys
+pub same_named : (xs ys : List NodeRow) → map (λ row. row.scope) xs ≡ map (λ row. row.scope) ys
+    → map (λ row. row.cost) xs ≡ map (λ row. row.cost) ys
     → map (λ row. row.name.items) xs ≡ map (λ row. row.name.items) ys
     → map named_row xs ≡ map named_row ys
 same_named [] [] scopes costs names = refl

@@ -35,20 +35,25 @@ use Rattle.program_analysis.specs.ProgramAnalyses.{IsAnalysis}
 use Rattle.program_analysis.specs.declared.bounded.BoundedAnalysis.{BoundedAnalysis}
 use Rattle.program_analysis.specs.declared.bounded.BoundedAnalysis.TheVariants as answers
 
--- no place is left in the end, and the report tells what was collected, with the path bound of it after so many pivots at most
-pub record IsClosedWith (parts : StepperParts) (o : Outlined) (policy : Policy) (turns pivots : ℕ) (report : Reported) : Type 0 where
+-- no place is left in the end, and the report tells what was collected, with the path bound of it after so many pivots
+-- at most
+pub record IsClosedWith (parts : StepperParts) (o : Outlined) (policy : Policy) (turns pivots : ℕ)
+    (report : Reported) : Type 0 where
   pub given : Reported
   pub closed : IsClosed parts o policy turns given
   pub bounded : report ≡ bounded o given pivots
 
--- the report is the given one with the path bound of its facts, and the certificate has the events and the multipliers of the bound, which hold
-pub record IsBoundWith (o : Outlined) (given : Reported) (events : List Event) (pivots : ℕ) (report : Reported) (cert : Certificate) : Type 0 where
+-- the report is the given one with the path bound of its facts, and the certificate has the events and the multipliers
+-- of the bound, which hold
+pub record IsBoundWith (o : Outlined) (given : Reported) (events : List Event) (pivots : ℕ) (report : Reported)
+    (cert : Certificate) : Type 0 where
   pub bounded : report ≡ bounded o given pivots
   pub cert_is : cert ≡ told_certificate o given.facts events pivots
   pub held : AreHeld (system_of o given.facts).program cert.scale cert.multipliers
 
 -- the policy's run leaves no place, and its report and events are bound so
-pub record IsCertifiedWith (parts : StepperParts) (o : Outlined) (policy : Policy) (turns pivots : ℕ) (report : Reported) (cert : Certificate) : Type 0 where
+pub record IsCertifiedWith (parts : StepperParts) (o : Outlined) (policy : Policy) (turns pivots : ℕ)
+    (report : Reported) (cert : Certificate) : Type 0 where
   pub given : Reported
   pub closed : IsClosed parts o policy turns given
   pub bound : IsBoundWith o given closed.events pivots report cert
@@ -75,14 +80,17 @@ pub record AreWritable (report : Reported) (cert : Certificate) : Type 0 where
 
 -- ---- of a program, whatever ranks its functions have
 
--- an analysis of the program finds the report but for its path bound, which is that of the facts after so many pivots at most
-pub record IsBoundedReport (program : NumberedProgram) (graph : GraphParts) (rows : List InputRow) (costs : CostTable) (policy : Policy) (turns pivots : ℕ) (report : Reported) : Type 0 where
+-- an analysis of the program finds the report but for its path bound, which is that of the facts after so many pivots
+-- at most
+pub record IsBoundedReport (program : NumberedProgram) (graph : GraphParts) (rows : List InputRow) (costs : CostTable)
+    (policy : Policy) (turns pivots : ℕ) (report : Reported) : Type 0 where
   pub given : Reported
   pub analysis : IsAnalysis program graph rows costs policy turns (Told given)
   pub bounded : report ≡ bounded analysis.outline given pivots
 
 -- so it is, or an analysis finds that places are left in the scope
-abbrev pub IsBoundedAnalysis : NumberedProgram → GraphParts → List InputRow → CostTable → Policy → ℕ → ℕ → Answer → Type 0
+abbrev pub IsBoundedAnalysis : NumberedProgram → GraphParts → List InputRow → CostTable → Policy → ℕ → ℕ → Answer
+    → Type 0
 IsBoundedAnalysis program graph rows costs policy turns pivots (Told report) = IsBoundedReport program graph rows costs policy turns pivots report
 IsBoundedAnalysis program graph rows costs policy turns pivots (Unbounded scope) = IsAnalysis program graph rows costs policy turns (Unbounded scope)
 
@@ -91,7 +99,8 @@ abbrev pub HasOneBoundedAnalysis : Type 0
 HasOneBoundedAnalysis = (program : NumberedProgram) (graph : GraphParts) (rows : List InputRow) (costs : CostTable) (policy : Policy) (turns pivots : ℕ) (a b : Answer)
     → IsBoundedAnalysis program graph rows costs policy turns pivots a → IsBoundedAnalysis program graph rows costs policy turns pivots b → a ≡ b
 
--- and a report is one in no fewer turns than its exploration makes steps, and in each number of turns that is not below them
+-- and a report is one in no fewer turns than its exploration makes steps, and in each number of turns that is not below
+-- them
 abbrev pub StaysBounded : Type 0
 StaysBounded = (program : NumberedProgram) (graph : GraphParts) (rows : List InputRow) (costs : CostTable) (policy : Policy) (turns pivots : ℕ) (report : Reported)
     (bounded : IsBoundedReport program graph rows costs policy turns pivots report)
@@ -99,9 +108,10 @@ StaysBounded = (program : NumberedProgram) (graph : GraphParts) (rows : List Inp
 
 -- ---- as it is printed
 
--- an analysis of the program finds the report, which has its certificate where one is wanted: the events of the policy's run, and the
--- multipliers that the pivot rule hands out in the end; and some text spells it
-pub record IsPrintedReport (certify : Bool) (program : NumberedProgram) (graph : GraphParts) (rows : List InputRow) (costs : CostTable) (policy : Policy) (turns pivots : ℕ) (report : Reported) : Type 0 where
+-- an analysis of the program finds the report, which has its certificate where one is wanted: the events of the
+-- policy's run, and the multipliers that the pivot rule hands out in the end; and some text spells it
+pub record IsPrintedReport (certify : Bool) (program : NumberedProgram) (graph : GraphParts) (rows : List InputRow)
+    (costs : CostTable) (policy : Policy) (turns pivots : ℕ) (report : Reported) : Type 0 where
   pub given : Reported
   pub analysis : IsAnalysis program graph rows costs policy turns (Told given)
   pub bare : Reported

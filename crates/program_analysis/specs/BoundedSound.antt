@@ -36,7 +36,8 @@ use Rattle.program_analysis.specs.Analyses.{IsClosed}
 use Rattle.program_analysis.specs.BoundedAnalyses.{IsClosedWith, IsBoundedReport}
 
 -- the run from the start ends; it meets each fact, its fault has an alarm, and it costs no more than each bound
-pub record IsSoundFor (program : NumberedProgram) (graph : GraphParts) (o : Shape) (costs : CostTable) (report : Reported) (start : Moment) : Type 0 where
+pub record IsSoundFor (program : NumberedProgram) (graph : GraphParts) (o : Shape) (costs : CostTable)
+    (report : Reported) (start : Moment) : Type 0 where
   pub trace : List ℕ
   pub outcome : Outcome
   pub runs : Runs program graph.nodes start trace outcome
@@ -49,10 +50,11 @@ pub record IsSoundFor (program : NumberedProgram) (graph : GraphParts) (o : Shap
 abbrev pub IsSound : NumberedProgram → GraphParts → List InputRow → Shape → CostTable → Reported → Type 0
 IsSound program graph rows o costs report = (start : Moment) → IsStart program rows start → IsSoundFor program graph o costs report start
 
--- the report is sound for the program of the parts, by the costs that the outline has; its path bound is at most its count bound,
--- and with `Least` the greatest worth of a point that meets its rows, rounded down
+-- the report is sound for the program of the parts, by the costs that the outline has; its path bound is at most its
+-- count bound, and with `Least` the greatest worth of a point that meets its rows, rounded down
 pub record IsRightFor (parts : StepperParts) (o : Outlined) (report : Reported) : Type 0 where
-  pub sound : (costs : CostTable) → HasCosts (seen parts.checked) parts.graph costs o → IsSound (seen parts.checked) parts.graph parts.rows (shape_of o) costs report
+  pub sound : (costs : CostTable) → HasCosts (seen parts.checked) parts.graph costs o
+      → IsSound (seen parts.checked) parts.graph parts.rows (shape_of o) costs report
   pub within : IsWithinCount report
   pub least : IsLeastOf o report
 

@@ -30,7 +30,8 @@ pub record IsToldExactly (parts : StepperParts) (o : Outlined) (turns : ℕ) (re
   pub fault : Option RunFault
   pub ends : IsOutcomeOf fault outcome
   pub exact : IsExact o report nodes fault
-  pub cost : (costs : CostTable) → HasCosts (seen parts.checked) parts.graph costs o → report.count_bound ≡ cost_of (node_cost (seen parts.checked) costs) runs.run
+  pub cost : (costs : CostTable) → HasCosts (seen parts.checked) parts.graph costs o
+      → report.count_bound ≡ cost_of (node_cost (seen parts.checked) costs) runs.run
 
 -- so it is where a report was found; where none was, the run has more nodes than the turns
 abbrev pub IsOneAnswer : StepperParts → Outlined → ℕ → Answer → Type 0

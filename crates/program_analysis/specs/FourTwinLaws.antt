@@ -22,7 +22,8 @@ module _ (o other : Outlined) (same : shape_of o ≡ shape_of other) where
   same_count = sym (length-map o.nodes (λ row. row.scope)) ∙ ap (λ (shape : Shape). length shape.own) same ∙ length-map other.nodes (λ row. row.scope)
 
   -- what is made of the shape and the count of nodes is the same
-  pub by_shape : {X : Type 0} (made : Shape → ℕ → X) → made (shape_of o) (length o.nodes) ≡ made (shape_of other) (length other.nodes)
+  pub by_shape : {X : Type 0} (made : Shape → ℕ → X)
+      → made (shape_of o) (length o.nodes) ≡ made (shape_of other) (length other.nodes)
   by_shape made = ap (λ (shape : Shape). made shape (length o.nodes)) same ∙ ap (made (shape_of other)) same_count
 
   total_twins : AreTwins total_recording o other
@@ -65,7 +66,8 @@ module _ (o other : Outlined) (same : shape_of o ≡ shape_of other) where
     finished = λ r b n. by_shape (λ shape count. record { owned = b.owned; pairs = tabled count count (λ a c. book_ended r b a c) });
   }
 
-both_twins : {X Y P Q : Type 0} (a : Recording X P) (b : Recording Y Q) (o other : Outlined) → AreTwins a o other → AreTwins b o other → AreTwins (both_recording a b) o other
+both_twins : {X Y P Q : Type 0} (a : Recording X P) (b : Recording Y Q) (o other : Outlined) → AreTwins a o other
+    → AreTwins b o other → AreTwins (both_recording a b) o other
 both_twins {X} {Y} {P} {Q} a b o other first second =
     let side : X → Y → Both X Y = λ x y. record { first = x; second = y } in
     let books : P → Q → BothBook P Q = λ p q. record { first = p; second = q } in

@@ -31,6 +31,7 @@ pub record AreFit (parts : StepperParts) (o : Outlined) : Type 0 where
   pub is_of : IsOutlineOf (plan_of parts.graph) (shape_of o)
 
 -- each step lies along an edge of the outline
-pub along_fit : (parts : StepperParts) (o : Outlined) → AreFit parts o → IsAlong MemoryParts (List RunEvent) (shape_of o) (stepped_by parts)
+pub along_fit : (parts : StepperParts) (o : Outlined) → AreFit parts o
+    → IsAlong MemoryParts (List RunEvent) (shape_of o) (stepped_by parts)
 along_fit parts o fit =
     is_part_along parts.checked parts.graph parts.rows fit.kept (shape_of o) fit.is_of.edges (fit.is_of.one_each ∙ length-map parts.graph.nodes place_of)

@@ -21,7 +21,8 @@ use Rattle.program_analysis.specs.Analyses.{IsFound}
 use Rattle.program_analysis.specs.TwinMachines.{IsProgramOf}
 
 -- an exploration of the program, by the policy in so many turns, finds this answer
-pub record IsAnalysis (program : NumberedProgram) (graph : GraphParts) (rows : List InputRow) (costs : CostTable) (policy : Policy) (turns : ℕ) (answer : Answer) : Type 0 where
+pub record IsAnalysis (program : NumberedProgram) (graph : GraphParts) (rows : List InputRow) (costs : CostTable)
+    (policy : Policy) (turns : ℕ) (answer : Answer) : Type 0 where
   -- the parts of the program as they are checked, and the outline of its graph with names and costs
   pub checked : CheckedParts
   pub keeps : IsKept (seen checked)
@@ -40,7 +41,8 @@ abbrev pub HasOneAnalysis : Type 0
 HasOneAnalysis = (program : NumberedProgram) (graph : GraphParts) (rows : List InputRow) (costs : CostTable) (policy : Policy) (turns : ℕ) (a b : Answer)
     → IsAnalysis program graph rows costs policy turns a → IsAnalysis program graph rows costs policy turns b → a ≡ b
 
--- a report is found in no fewer turns than its exploration makes steps, and in each number of turns that is not below them
+-- a report is found in no fewer turns than its exploration makes steps, and in each number of turns that is not below
+-- them
 abbrev pub StaysAnalysed : Type 0
 StaysAnalysed = (program : NumberedProgram) (graph : GraphParts) (rows : List InputRow) (costs : CostTable) (policy : Policy) (turns : ℕ) (report : Reported)
     (analysis : IsAnalysis program graph rows costs policy turns (Told report))

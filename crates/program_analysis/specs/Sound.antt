@@ -27,7 +27,8 @@ HasAlarm trace (Faulted fault) facts = HasAlarmOf facts trace fault
 HasAlarm trace Lost facts = ⊥
 
 -- the run from the start ends; it meets each fact, its fault has an alarm, and it costs no more than the bound
-pub record IsSoundFor (program : NumberedProgram) (graph : GraphParts) (o : Shape) (costs : CostTable) (report : Reported) (start : Moment) : Type 0 where
+pub record IsSoundFor (program : NumberedProgram) (graph : GraphParts) (o : Shape) (costs : CostTable)
+    (report : Reported) (start : Moment) : Type 0 where
   pub trace : List ℕ
   pub outcome : Outcome
   pub runs : Runs program graph.nodes start trace outcome

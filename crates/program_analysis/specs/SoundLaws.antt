@@ -38,7 +38,8 @@ IsOutcomeOf None outcome = (outputs : Outputs) × (outcome ≡ Ended outputs)
 IsOutcomeOf (Some fault) outcome = outcome ≡ Faulted fault
 
 -- a run from the point has the nodes of the trace and ends so
-pub record RunsSo (program : NumberedProgram) (graph : GraphParts) (n : ℕ) (history : List RunEvent) (trace : List ℕ) (fault : Option RunFault) : Type 0 where
+pub record RunsSo (program : NumberedProgram) (graph : GraphParts) (n : ℕ) (history : List RunEvent) (trace : List ℕ)
+    (fault : Option RunFault) : Type 0 where
   pub outcome : Outcome
   pub is : IsOutcomeOf fault outcome
   pub runs : Runs program graph.nodes (moment_at graph n history) trace outcome
@@ -49,19 +50,23 @@ module _ (program : NumberedProgram) (graph : GraphParts) (rows : List InputRow)
   at_low : (n : ℕ) → n < length graph.nodes → IsNodeAt graph.nodes n (node_number graph n)
   at_low n low = slice_get-get_or graph.nodes n first_node low
 
-  stopped : (n : ℕ) (history : List RunEvent) (outcome : Outcome) → n < length graph.nodes → step program (moment_at graph n history) ≡ Over outcome → Runs program graph.nodes (moment_at graph n history) (n ∷ []) outcome
+  stopped : (n : ℕ) (history : List RunEvent) (outcome : Outcome) → n < length graph.nodes
+      → step program (moment_at graph n history) ≡ Over outcome
+      → Runs program graph.nodes (moment_at graph n history) (n ∷ []) outcome
   stopped n history outcome low over = record {
     run = node_number graph n ∷ [];
     ends = record { steps = 1; over = over; passes = refl };
     numbers = (at_low n low, tt);
   }
 
-  ended : (n : ℕ) (history : List RunEvent) (fault : Option RunFault) → EndsWith (run_system program graph rows) n history fault → RunsSo program graph n history (n ∷ []) fault
+  ended : (n : ℕ) (history : List RunEvent) (fault : Option RunFault)
+      → EndsWith (run_system program graph rows) n history fault → RunsSo program graph n history (n ∷ []) fault
   ended n history None ends = record { outcome = Ended ends.outputs; is = (ends.outputs, refl); runs = stopped n history (Ended ends.outputs) ends.from ends.steps }
   ended n history (Some fault) fails = record { outcome = Faulted fault; is = refl; runs = stopped n history (Faulted fault) fails.from fails.steps }
 
   -- a run of the system that ends is one of the program
-  pub passes_runs : {n : ℕ} {history : List RunEvent} {nodes : List ℕ} {fault : Option RunFault} → Passes (run_system program graph rows) n history nodes fault → RunsSo program graph n history nodes fault
+  pub passes_runs : {n : ℕ} {history : List RunEvent} {nodes : List ℕ} {fault : Option RunFault}
+      → Passes (run_system program graph rows) n history nodes fault → RunsSo program graph n history nodes fault
   passes_runs {n} {history} {nodes} {fault} (stops ends) = ended n history fault ends
   passes_runs {n} {history} {nodes} {fault} (moves goes rest) =
       let r = passes_runs rest in
@@ -82,7 +87,9 @@ module _ (program : NumberedProgram) (graph : GraphParts) (rows : List InputRow)
 
 -- ---- costs
 
-same_fold : (f : ℕ → ℕ) (g : Node → ℕ) (nodes : List Node) → ((n : ℕ) (node : Node) → IsNodeAt nodes n node → f n ≡ g node) → (trace : List ℕ) (run : List Node) → AreNumbersOf nodes trace run
+same_fold : (f : ℕ → ℕ) (g : Node → ℕ) (nodes : List Node)
+    → ((n : ℕ) (node : Node) → IsNodeAt nodes n node → f n ≡ g node) → (trace : List ℕ) (run : List Node)
+    → AreNumbersOf nodes trace run
     → (s : ℕ) → fold (λ a n. a + f n) s trace ≡ fold (λ a node. a + g node) s run
 same_fold f g nodes same [] [] all s = refl
 same_fold f g nodes same [] (node ∷ run) all s = absurd all

@@ -22,7 +22,9 @@ use Rattle.program_analysis.specs.Twins.{AreTwins, along}
 
 -- ---- what one step makes
 
-faults_along : {R B : Type 0} (z : Recording R B) (o other : Outlined) → AreTwins z o other → (r : R) (n : ℕ) (b : B) (faults : FaultSet) → book_at_faults z o r n b faults ≡ book_at_faults z other r n b faults
+faults_along : {R B : Type 0} (z : Recording R B) (o other : Outlined) → AreTwins z o other
+    → (r : R) (n : ℕ) (b : B) (faults : FaultSet)
+    → book_at_faults z o r n b faults ≡ book_at_faults z other r n b faults
 faults_along {B = B} z o other twins r n b faults = ap (λ (done : B). if may_fault faults then done else b) (twins.finished r b n)
 
 module _ {T R B : Type 0} (z : Recording R B) (o other : Outlined) (twins : AreTwins z o other) where
@@ -32,23 +34,27 @@ module _ {T R B : Type 0} (z : Recording R B) (o other : Outlined) (twins : AreT
       ∙ ap (λ (done : B). if s.0 == length other.nodes then done else z.gone_book o r b n s.0) (twins.finished r b n)
       ∙ ap (λ (on : B). if s.0 == length other.nodes then z.finished other r b n else on) (twins.gone_book r b n s.0)
 
-  next_along : (position : List ℕ) (r : R) (n : ℕ) (b : B) (s : ℕ × T) → next_spot z o position r n b s ≡ next_spot z other position r n b s
+  next_along : (position : List ℕ) (r : R) (n : ℕ) (b : B) (s : ℕ × T)
+      → next_spot z o position r n b s ≡ next_spot z other position r n b s
   next_along position r n b s =
       let spot : Shape → R → Spot T R = λ shape recorder. record { node = s.0; position = moved_position shape n position s.0; state = s.1; recorder = recorder } in
       ap (λ (shape : Shape). spot shape (z.gone o r b n s.0)) twins.shape ∙ ap (spot (shape_of other)) (twins.gone r b n s.0)
 
-  spots_after_along : (position : List ℕ) (r : R) (n : ℕ) (b : B) (s : ℕ × T) → spots_after z o position r n b s ≡ spots_after z other position r n b s
+  spots_after_along : (position : List ℕ) (r : R) (n : ℕ) (b : B) (s : ℕ × T)
+      → spots_after z o position r n b s ≡ spots_after z other position r n b s
   spots_after_along position r n b s =
       let none : List (Spot T R) = [] in
       ap (λ (count : ℕ). if s.0 == count then none else next_spot z o position r n b s ∷ []) twins.count
       ∙ ap (λ (spot : Spot T R). if s.0 == length other.nodes then none else spot ∷ []) (next_along position r n b s)
 
-  spread_book_along : (r : R) (n : ℕ) (b : B) (next : List (ℕ × T)) → spread_book z o r n b next ≡ spread_book z other r n b next
+  spread_book_along : (r : R) (n : ℕ) (b : B) (next : List (ℕ × T))
+      → spread_book z o r n b next ≡ spread_book z other r n b next
   spread_book_along r n b [] = refl
   spread_book_along r n b (s ∷ rest) =
       spread_book_along r n (book_after z o r n b s) rest ∙ ap (λ (book : B). spread_book z other r n book rest) (book_after_along r n b s)
 
-  spread_spots_along : (position : List ℕ) (r : R) (n : ℕ) (b : B) (next : List (ℕ × T)) → spread_spots z o position r n b next ≡ spread_spots z other position r n b next
+  spread_spots_along : (position : List ℕ) (r : R) (n : ℕ) (b : B) (next : List (ℕ × T))
+      → spread_spots z o position r n b next ≡ spread_spots z other position r n b next
   spread_spots_along position r n b [] = refl
   spread_spots_along position r n b (s ∷ rest) =
       ap (λ (spots : List (Spot T R)). spots ++ spread_spots z o position r n (book_after z o r n b s) rest) (spots_after_along position r n b s)
@@ -59,7 +65,8 @@ module _ {T R B : Type 0} (z : Recording R B) (o other : Outlined) (twins : AreT
 
 module _ {S T C R B : Type 0} (machine : S → Machine T C) (states : Order T) (recorders : Order R) (z : Recording R B) where
   -- a pool at its start
-  pub opened_along : (stepper : S) (o other : Outlined) → AreTwins z o other → along (opened machine z stepper o) other ≡ opened machine z stepper other
+  pub opened_along : (stepper : S) (o other : Outlined) → AreTwins z o other
+      → along (opened machine z stepper o) other ≡ opened machine z stepper other
   opened_along stepper o other twins =
       let pool : Shape → R → B → ℕ → Pooled S T R B = λ shape recorder book count. record {
         stepper = stepper;
@@ -76,7 +83,8 @@ module _ {S T C R B : Type 0} (machine : S → Machine T C) (states : Order T) (
       ∙ ap (pool (shape_of other) (z.first other) (z.first_book other)) twins.count
 
   -- a pool after a step
-  stepped_along : (w : Pooled S T R B) (other : Outlined) (i : ℕ) (spot : Spot T R) → AreTwins z w.outline other → along (stepped_at machine z w i spot) other ≡ stepped_at machine z (along w other) i spot
+  stepped_along : (w : Pooled S T R B) (other : Outlined) (i : ℕ) (spot : Spot T R) → AreTwins z w.outline other
+      → along (stepped_at machine z w i spot) other ≡ stepped_at machine z (along w other) i spot
   stepped_along w other i spot twins =
       let faults : FaultSet = (machine w.stepper).faults spot.node spot.state in
       let next : List (ℕ × T) = (machine w.stepper).next spot.node spot.state in
@@ -96,13 +104,15 @@ module _ {S T C R B : Type 0} (machine : S → Machine T C) (states : Order T) (
       ∙ ap (λ (spots : List (Spot T R)). pool spots (spread_book z w.outline spot.recorder spot.node second next)) (spread_spots_along z w.outline other twins spot.position spot.recorder spot.node second next)
       ∙ ap (pool (spread_spots z other spot.position spot.recorder spot.node second next)) (spread_book_along z w.outline other twins spot.recorder spot.node second next)
 
-  pub happens_along : (old new : Pooled S T R B) (other : Outlined) (event : Event) → AreTwins z old.outline other → Happens machine states recorders z old event new
+  pub happens_along : (old new : Pooled S T R B) (other : Outlined) (event : Event) → AreTwins z old.outline other
+      → Happens machine states recorders z old event new
       → Happens machine states recorders z (along old other) event (along new other)
   happens_along old new other (Step i) twins (spot, found, is) = (spot, found, ap (λ (w : Pooled S T R B). along w other) is ∙ stepped_along old other i spot twins)
   happens_along old new other (Merge i j) twins (a, b, before, first, second, same, is) = (a, b, before, first, second, same, ap (λ (w : Pooled S T R B). along w other) is)
 
   -- a policy run along the one is one along the other
-  pub run_along : (policy : Policy) (turns : ℕ) (events : List Event) (old new : Pooled S T R B) (other : Outlined) → AreTwins z old.outline other
+  pub run_along : (policy : Policy) (turns : ℕ) (events : List Event) (old new : Pooled S T R B) (other : Outlined)
+      → AreTwins z old.outline other
       → IsPolicyRun machine states recorders z policy turns old events new → IsPolicyRun machine states recorders z policy turns (along old other) events (along new other)
   run_along policy turns [] old new other twins (is, end) = (ap (λ (w : Pooled S T R B). along w other) is, end)
   run_along policy turns (event ∷ events) old new other twins (more, choice, mid, happens, rest) =
@@ -115,7 +125,8 @@ module _ {S T C R B : Type 0} (machine : S → Machine T C) (states : Order T) (
       )
 
   -- a policy run keeps the outline
-  pub run_same : (policy : Policy) (turns : ℕ) (events : List Event) (old new : Pooled S T R B) → IsPolicyRun machine states recorders z policy turns old events new → new.outline ≡ old.outline
+  pub run_same : (policy : Policy) (turns : ℕ) (events : List Event) (old new : Pooled S T R B)
+      → IsPolicyRun machine states recorders z policy turns old events new → new.outline ≡ old.outline
   run_same policy turns [] old new (is, end) = ap (λ (w : Pooled S T R B). w.outline) is
   run_same policy turns (event ∷ events) old new (more, choice, mid, happens, rest) =
       let on : IsOneOn old mid = event_one_on machine states recorders z old mid event happens in

@@ -48,7 +48,8 @@ module _ (program : NumberedProgram) (checked other : CheckedParts) (first : IsP
   same_memory : (t u : MemoryParts) → IsTwin checked other t u → memory_in t ≡ memory_in u
   same_memory t u twin = ap (λ (running : List Bool). memory_of running t.frames) twin.running ∙ ap (memory_of u.running) twin.frames
 
-  joined_twin : (t u v w : MemoryParts) → IsTwin checked other t u → IsTwin checked other v w → IsTwin checked other (joined t v) (joined u w)
+  joined_twin : (t u v w : MemoryParts) → IsTwin checked other t u → IsTwin checked other v w
+      → IsTwin checked other (joined t v) (joined u w)
   joined_twin t u v w one two =
       let m = both abstract_sets (memory_in t) (memory_in v) in
       let same : m ≡ both abstract_sets (memory_in u) (memory_in w) =
@@ -59,7 +60,8 @@ module _ (program : NumberedProgram) (checked other : CheckedParts) (first : IsP
 
   module _ (graph : GraphParts) (rows : List InputRow) where
     -- a step of the one is a step of the other
-    same_step : (n : ℕ) (m : Mem abstract_sets) → goals_from (seen checked) graph n m ≡ goals_from (seen other) graph n m
+    same_step : (n : ℕ) (m : Mem abstract_sets)
+        → goals_from (seen checked) graph n m ≡ goals_from (seen other) graph n m
     same_step n m = ap (λ (p : NumberedProgram). goals_from p graph n m) same_program
 
     goes_with : (points : List (ℕ × Mem abstract_sets)) → AllZip (GoesWith (IsTwin checked other)) (map (made_at (made checked)) points) (map (made_at (made other)) points)

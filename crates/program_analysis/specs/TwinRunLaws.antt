@@ -32,14 +32,16 @@ module _ {T R B : Type 0} (Twin : T → T → Type 0) (z : Recording R B) (o : O
   book_after_same : (b : B) (s s' : ℕ × T) → GoesWith Twin s s' → book_after z o r n b s ≡ book_after z o r n b s'
   book_after_same b s s' (u, twin, is) = ap (λ (k : ℕ). if k == length o.nodes then z.finished o r b n else z.gone_book o r b n k) (ap (λ (p : ℕ × T). p.0) (sym is))
 
-  spread_book_same : (b : B) (next others : List (ℕ × T)) → AllZip (GoesWith Twin) next others → spread_book z o r n b next ≡ spread_book z o r n b others
+  spread_book_same : (b : B) (next others : List (ℕ × T)) → AllZip (GoesWith Twin) next others
+      → spread_book z o r n b next ≡ spread_book z o r n b others
   spread_book_same b [] [] h = refl
   spread_book_same b [] (s' ∷ others) h = absurd h
   spread_book_same b (s ∷ next) [] h = absurd h
   spread_book_same b (s ∷ next) (s' ∷ others) h =
       spread_book_same (book_after z o r n b s) next others h.1 ∙ ap (λ (k : B). spread_book z o r n k others) (book_after_same b s s' h.0)
 
-  spots_after_beside : (position : List ℕ) (b : B) (s s' : ℕ × T) → GoesWith Twin s s' → AllZip (IsBeside Twin) (spots_after z o position r n b s) (spots_after z o position r n b s')
+  spots_after_beside : (position : List ℕ) (b : B) (s s' : ℕ × T) → GoesWith Twin s s'
+      → AllZip (IsBeside Twin) (spots_after z o position r n b s) (spots_after z o position r n b s')
   spots_after_beside position b s s' (u, twin, is) =
       subst (λ (p : ℕ × T). AllZip (IsBeside Twin) (spots_after z o position r n b s) (spots_after z o position r n b p)) (sym is)
       (by_test (s.0 == length o.nodes) (λ e. rw e tt) (λ e. rw e ((u, twin, refl), tt)))
@@ -58,7 +60,8 @@ module _ {T R B : Type 0} (Twin : T → T → Type 0) (z : Recording R B) (o : O
 
 -- ---- positions
 
-pub positions_same : {T R : Type 0} (Twin : T → T → Type 0) (xs ys : List (Spot T R)) → AllZip (IsBeside Twin) xs ys → positions_of xs ≡ positions_of ys
+pub positions_same : {T R : Type 0} (Twin : T → T → Type 0) (xs ys : List (Spot T R)) → AllZip (IsBeside Twin) xs ys
+    → positions_of xs ≡ positions_of ys
 positions_same Twin [] [] h = refl
 positions_same Twin [] (y ∷ ys) h = absurd h
 positions_same Twin (x ∷ xs) [] h = absurd h
@@ -68,7 +71,8 @@ positions_same {T} {R} Twin (x ∷ xs) (y ∷ ys) h =
 -- ---- pools
 
 module _ {S T C R B : Type 0} (machine : S → Machine T C) (states : Order T) (recorders : Order R) (z : Recording R B) (Twin : T → T → Type 0) (other : S) where
-  step_beside : (old new : Pooled S T R B) (spots : List (Spot T R)) (i : ℕ) (spot : Spot T R) → AreTwins (machine old.stepper) (machine other) states Twin → AllZip (IsBeside Twin) old.spots spots
+  step_beside : (old new : Pooled S T R B) (spots : List (Spot T R)) (i : ℕ) (spot : Spot T R)
+      → AreTwins (machine old.stepper) (machine other) states Twin → AllZip (IsBeside Twin) old.spots spots
       → slice_get old.spots i ≡ Some spot → new ≡ stepped_at machine z old i spot → IsAlso {S = S} {T = T} {C = C} {R = R} {B = B} machine states recorders z Twin other old new spots (Step i)
   step_beside old new spots i spot twins h at is =
       let found = zip_at (IsBeside Twin) old.spots spots i spot h at in
@@ -113,7 +117,8 @@ module _ {S T C R B : Type 0} (machine : S → Machine T C) (states : Order T) (
         );
       }
 
-  merge_beside : (old new : Pooled S T R B) (spots : List (Spot T R)) (i j : ℕ) (first second : Spot T R) → AreTwins (machine old.stepper) (machine other) states Twin
+  merge_beside : (old new : Pooled S T R B) (spots : List (Spot T R)) (i j : ℕ) (first second : Spot T R)
+      → AreTwins (machine old.stepper) (machine other) states Twin
       → AllZip (IsBeside Twin) old.spots spots → i < j → slice_get old.spots i ≡ Some first → slice_get old.spots j ≡ Some second → first.position ≡ second.position
       → new ≡ merged_at states recorders old i j first second → IsAlso {S = S} {T = T} {C = C} {R = R} {B = B} machine states recorders z Twin other old new spots (Merge i j)
   merge_beside old new spots i j first second twins h before at at_second same is =
@@ -132,12 +137,14 @@ module _ {S T C R B : Type 0} (machine : S → Machine T C) (states : Order T) (
         happens = (a, b, before, one.1 ∙ ap Some one.2.2, two.1 ∙ ap Some two.2.2, same, ap (λ (w : Pooled S T R B). beside w other others) is);
       }
 
-  pub event_beside : (old new : Pooled S T R B) (spots : List (Spot T R)) (event : Event) → AreTwins (machine old.stepper) (machine other) states Twin → AllZip (IsBeside Twin) old.spots spots
+  pub event_beside : (old new : Pooled S T R B) (spots : List (Spot T R)) (event : Event)
+      → AreTwins (machine old.stepper) (machine other) states Twin → AllZip (IsBeside Twin) old.spots spots
       → Happens machine states recorders z old event new → IsAlso {S = S} {T = T} {C = C} {R = R} {B = B} machine states recorders z Twin other old new spots event
   event_beside old new spots (Step i) twins h (spot, at, is) = step_beside old new spots i spot twins h at is
   event_beside old new spots (Merge i j) twins h (a, b, before, first, second, same, is) = merge_beside old new spots i j a b twins h before first second same is
 
-  choice_beside : (o : Shape) (policy : Policy) (xs ys : List (Spot T R)) (event : Event) → AllZip (IsBeside Twin) xs ys → IsChoice o policy xs event → IsChoice o policy ys event
+  choice_beside : (o : Shape) (policy : Policy) (xs ys : List (Spot T R)) (event : Event) → AllZip (IsBeside Twin) xs ys
+      → IsChoice o policy xs event → IsChoice o policy ys event
   choice_beside o policy xs ys (Merge i j) h (merges spot least at point next) =
       let found = zip_at (IsBeside Twin) xs ys i spot h at in
       let same = positions_same Twin xs ys h in

@@ -29,8 +29,8 @@ use std::alloc::{AllocError, Global};
 use worklist_rules::Policy;
 
 /// Explores a program's graph along its outline, for runs with inputs inside the ranges of the rows, and tells what
-/// each run does, with the path bound of the facts after so many pivots at most, and beside it the certificate of both; or
-/// the scope in which the turns were used up.
+/// each run does, with the path bound of the facts after so many pivots at most, and beside it the certificate of both;
+/// or the scope in which the turns were used up.
 ///
 /// Takes time by the turns and by what steps take, then by the pivots; and memory for the places that are left and
 /// for the events, then for the rows.
@@ -52,7 +52,9 @@ pub fn analyse(
 
     // What the policy finds over the pools of the program's machine, with the path bound of it, the policy's events and
     // the multipliers of the bound.
-    ensures found { IfOk result (λ analysed. IsFoundWith (record { checked = checked.now; graph = graph.now; rows = rows.now }) outline.now policy turns pivots analysed) }
+    ensures found { IfOk result
+        (λ analysed. IsFoundWith (record { checked = checked.now; graph = graph.now; rows = rows.now }) outline.now
+        policy turns pivots analysed) }
 
     // The report is one that some text spells, with the certificate too.
     ensures writable { IfOk result (λ analysed. IfTold analysed AreWritable) }
@@ -75,7 +77,8 @@ fn with_bound(
     pivots: u32,
 ) -> Result<BoundedAnalysis, AllocError>
     requires { IsTold outline.now (reported report) }
-    ensures found { IfOk result (λ analysed. IsAnsweredWith analysed (IsBoundWith outline.now (reported report) events.items pivots)) }
+    ensures found { IfOk result
+        (λ analysed. IsAnsweredWith analysed (IsBoundWith outline.now (reported report) events.items pivots)) }
     ensures writable { IsWritable (reported report) → IfOk result (λ analysed. IfTold analysed AreWritable) }
 {
     let bounded = bounded_report(alloc, outline, report, pivots)?;

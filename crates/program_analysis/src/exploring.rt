@@ -49,10 +49,14 @@ pub(crate) fn explore(
     requires turns { turns ≤ most_turns }
 
     // What the policy finds over the pools of the program's machine.
-    ensures found { IfOk result (λ analysed. IsFound (record { checked = checked.now; graph = graph.now; rows = rows.now }) outline.now policy turns (answer_of analysed)) }
+    ensures found { IfOk result
+        (λ analysed. IsFound (record { checked = checked.now; graph = graph.now; rows = rows.now }) outline.now policy
+        turns (answer_of analysed)) }
 
     // The events are the policy's own.
-    ensures events { IfOk result (λ analysed. IfClosed analysed (IsClosedBy (record { checked = checked.now; graph = graph.now; rows = rows.now }) outline.now policy turns)) }
+    ensures events { IfOk result
+        (λ analysed. IfClosed analysed
+        (IsClosedBy (record { checked = checked.now; graph = graph.now; rows = rows.now }) outline.now policy turns)) }
 
     // The report is one that some text spells.
     ensures writable { IfOk result (λ analysed. IfTold (answer_of analysed) IsWritable) }
@@ -100,7 +104,8 @@ fn told(
     requires nodes { length outline.now.nodes ≤ most_nodes }
     requires turns { turns ≤ most_turns }
     ensures found { IfOk result (λ analysed. IsFound pool.now.stepper outline.now policy turns (answer_of analysed)) }
-    ensures events { IfOk result (λ analysed. IfClosed analysed (IsClosedBy pool.now.stepper outline.now policy turns)) }
+    ensures events { IfOk result
+        (λ analysed. IfClosed analysed (IsClosedBy pool.now.stepper outline.now policy turns)) }
     ensures writable { IfOk result (λ analysed. IfTold (answer_of analysed) (IsWritableOf outline.now)) }
 {
     numbers_are_at_most_the_steps::<AlfStepper>();

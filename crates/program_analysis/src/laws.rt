@@ -1,8 +1,11 @@
 //! What the definitions promise, as clauses of functions that do nothing.
 
-ghost use Rattle.program_analysis.specs.AnalysisLaws.{PartsHaveOneAnalysis, StaysFound, PartsHaveOneEventList, HasOneAlike};
-ghost use Rattle.program_analysis.specs.BoundedAnalyses.{HasOneBoundedAnalysis, StaysBounded, HasOnePrintedReport, StaysPrinted};
-ghost use Rattle.program_analysis.specs.BoundedSound.{FoundReportsAreRight, ClosedExplorationsHaveTotals, LoneBoundsAgree};
+ghost use Rattle.program_analysis.specs.AnalysisLaws.{PartsHaveOneAnalysis, StaysFound, PartsHaveOneEventList};
+ghost use Rattle.program_analysis.specs.AnalysisLaws.{HasOneAlike};
+ghost use Rattle.program_analysis.specs.BoundedAnalyses.{HasOneBoundedAnalysis, StaysBounded, HasOnePrintedReport};
+ghost use Rattle.program_analysis.specs.BoundedAnalyses.{StaysPrinted};
+ghost use Rattle.program_analysis.specs.BoundedSound.{FoundReportsAreRight, ClosedExplorationsHaveTotals};
+ghost use Rattle.program_analysis.specs.BoundedSound.{LoneBoundsAgree};
 ghost use Rattle.program_analysis.specs.ExactLaws.{LoneInputIsToldExactly};
 ghost use Rattle.program_analysis.specs.Fitting.{PartsFit};
 ghost use Rattle.program_analysis.specs.LoneAnalyses.{LoneAnalysisIsExact};
@@ -19,8 +22,8 @@ use program_machines::a_graph_has_one_ranking;
 
 /// The parts of a program have one analysis: along outlines of one shape, with the same names and costs, a policy finds
 /// one answer in so many turns, and a report is found in each number of turns that is not below the steps of its
-/// exploration, which has one list of events whatever the turns. Outlines of one graph with the same names and costs are
-/// alike.
+/// exploration, which has one list of events whatever the turns. Outlines of one graph with the same names and costs
+/// are alike.
 pub fn parts_have_one_analysis()
     ensures one { PartsHaveOneAnalysis }
     ensures longer { StaysFound }
@@ -42,9 +45,9 @@ pub fn a_program_has_one_analysis()
     parts_have_one_analysis();
 }
 
-/// A program has one answer with a path bound, and a report is found in each number of turns that is not below the steps
-/// of its exploration. So it is of the report as it is printed, with a certificate or without: each such number of turns
-/// gives the same events and multipliers.
+/// A program has one answer with a path bound, and a report is found in each number of turns that is not below the
+/// steps of its exploration. So it is of the report as it is printed, with a certificate or without: each such number
+/// of turns gives the same events and multipliers.
 pub fn a_program_has_one_bounded_analysis()
     ensures one { HasOneBoundedAnalysis }
     ensures longer { StaysBounded }
@@ -54,10 +57,10 @@ pub fn a_program_has_one_bounded_analysis()
     a_program_has_one_analysis();
 }
 
-/// Where each range has one number, the parts of a program have one run, and an analysis tells exactly it. A report comes
-/// exactly where the run has at most as many nodes as the turns: totals, loops, counts, dead nodes and pairs are the run's
-/// own, the only alarm is its fault, and the count bound is its cost. Else the scope is that of the node that comes after
-/// so many.
+/// Where each range has one number, the parts of a program have one run, and an analysis tells exactly it. A report
+/// comes exactly where the run has at most as many nodes as the turns: totals, loops, counts, dead nodes and pairs are
+/// the run's own, the only alarm is its fault, and the count bound is its cost. Else the scope is that of the node that
+/// comes after so many.
 pub fn parts_alone_are_told_exactly()
     ensures { LoneInputIsToldExactly }
 {
@@ -93,9 +96,10 @@ pub(crate) fn parts_fit()
     values_have_their_size();
 }
 
-/// A report that is found is sound for the program: each run from inputs inside the ranges ends, meets each fact, faults
-/// only where an alarm says so, and costs at most the count bound and at most the path bound. The path bound is at most
-/// the count bound, and with `Least` it is the greatest worth of a point that meets the report's rows, rounded down.
+/// A report that is found is sound for the program: each run from inputs inside the ranges ends, meets each fact,
+/// faults only where an alarm says so, and costs at most the count bound and at most the path bound. The path bound is
+/// at most the count bound, and with `Least` it is the greatest worth of a point that meets the report's rows, rounded
+/// down.
 pub fn found_reports_are_right()
     ensures { FoundReportsAreRight }
 {

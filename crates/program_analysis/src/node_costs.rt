@@ -14,7 +14,8 @@ use flow_graph::Graph;
 /// Gives each node of the outline what it costs: a block what the table says, and an entry nothing.
 pub fn set_costs(graph: &Graph, costs: &Costs, outline: &mut Outline)
     requires { length outline.old.nodes ≡ length graph.now.nodes }
-    ensures priced { (program : NumberedProgram) → IsGraph program graph.now → HasCosts program graph.now costs.now outline.new }
+    ensures priced { (program : NumberedProgram) → IsGraph program graph.now
+        → HasCosts program graph.now costs.now outline.new }
     ensures kept { IsPricedAs outline.old outline.new }
 {
     for n in 0..graph.node_count() {
@@ -25,7 +26,8 @@ pub fn set_costs(graph: &Graph, costs: &Costs, outline: &mut Outline)
 // What a node costs.
 fn cost_of(graph: &Graph, costs: &Costs, n: u32) -> u32
     requires { n < length graph.now.nodes }
-    ensures { (program : NumberedProgram) (node : Node) → IsGraph program graph.now → slice_get graph.now.nodes n ≡ Some node → result ≡ node_cost program costs.now node }
+    ensures { (program : NumberedProgram) (node : Node) → IsGraph program graph.now
+        → slice_get graph.now.nodes n ≡ Some node → result ≡ node_cost program costs.now node }
 {
     let node = graph.node(n);
     match node.block {

@@ -32,7 +32,9 @@ module _ (checked : CheckedParts) (graph : GraphParts) (rows : List InputRow) (k
     (costs : CostTable) (outline : Outlined) (policy : Policy) (turns pivots : ℕ)
     (outline_kept : IsOutline (shape_of outline)) (outline_is : IsOutlineOf (plan_of graph) (shape_of outline)) (named : names_of outline ≡ graph.names) (priced : HasCosts (seen checked) graph costs outline) where
   -- what was found of the parts, but for the path bound
-  analysis_of : (answer : Answer) → IsFound (record { checked = checked; graph = graph; rows = rows }) outline policy turns answer → IsAnalysis (seen checked) graph rows costs policy turns answer
+  analysis_of : (answer : Answer)
+      → IsFound (record { checked = checked; graph = graph; rows = rows }) outline policy turns answer
+      → IsAnalysis (seen checked) graph rows costs policy turns answer
   analysis_of answer found = record {
     checked = checked;
     keeps = keeps;
@@ -54,7 +56,8 @@ module _ (checked : CheckedParts) (graph : GraphParts) (rows : List InputRow) (k
   report_of report cert found = record { given = found.given; analysis = analysis_of (Told found.given) found.closed; bounded = found.bound.bounded }
 
   -- or places are left
-  pub left_of : (scope : ℕ) → IsLeft (record { checked = checked; graph = graph; rows = rows }) outline policy turns scope
+  pub left_of : (scope : ℕ)
+      → IsLeft (record { checked = checked; graph = graph; rows = rows }) outline policy turns scope
       → IsBoundedAnalysis (seen checked) graph rows costs policy turns pivots (Unbounded scope)
   left_of scope found = analysis_of (Unbounded scope) found
 

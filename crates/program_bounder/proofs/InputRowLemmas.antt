@@ -43,7 +43,8 @@ is_range program row keeps =
     let m = keeps.most in
     record { ordered = keeps.ordered; least = omega (arith, ints); most = omega (arith, ints) }
 
-pub are_ranges : (program : NumberedProgram) (rows : List InputRow) → All (KeepsInput program) rows → All IsRange (ranges_of rows)
+pub are_ranges : (program : NumberedProgram) (rows : List InputRow) → All (KeepsInput program) rows
+    → All IsRange (ranges_of rows)
 are_ranges program [] all = All-nil IsRange
 are_ranges program (row ∷ rows) all =
     All-cons IsRange (range_of row) (ranges_of rows)

@@ -17,7 +17,8 @@ use Rattle.program_bounder.specs.InputRows.{range_of, ranges_of}
 use Rattle.program_bounder.proofs.InputRowLemmas.{own_ranges}
 use Rattle.program_bounder.specs.PathBounding.{Promises, given_program, Suits}
 
-pub suits_own : (b : PathBounder) → Promises → IsKept (seen b.checked) → IsGraph (seen b.checked) b.graph → KeepInputs (seen b.checked) b.rows.items → IsOutline (shape_of b.outline)
+pub suits_own : (b : PathBounder) → Promises → IsKept (seen b.checked) → IsGraph (seen b.checked) b.graph
+    → KeepInputs (seen b.checked) b.rows.items → IsOutline (shape_of b.outline)
     → IsOutlineOf (plan_of b.graph) (shape_of b.outline) → names_of b.outline ≡ b.graph.names → HasCosts (given_program b) b.graph b.costs b.outline → b.turns ≤ most_turns
     → Suits b (ranges_of b.rows.items)
 suits_own b promises keeps graph rows kept outline named costs turns = record {

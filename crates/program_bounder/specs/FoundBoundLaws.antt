@@ -41,7 +41,8 @@ module _ (program : NumberedProgram) (graph : GraphParts) (rows : List InputRow)
   priced = h.analysis.costs_are ∙ ap (λ (cost : Node → ℕ). map cost graph.nodes) (sym (costs_same program h.analysis.checked h.analysis.program_is costs))
 
   -- the run with an input inside the ranges costs at most the path bound
-  pub found_bounds : FoundReportsAreRight → (input : List ℤ) → AreWithin rows input → BoundedRun program graph rows costs report input
+  pub found_bounds : FoundReportsAreRight → (input : List ℤ) → AreWithin rows input
+      → BoundedRun program graph rows costs report input
   found_bounds law input within =
       let a = h.analysis in
       let right = law (record { checked = a.checked; graph = graph; rows = rows }) a.outline policy turns pivots report a.keeps a.graph_is a.inputs a.outline_kept a.outline_is

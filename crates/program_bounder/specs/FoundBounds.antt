@@ -19,14 +19,16 @@ use Rattle.program_analysis.specs.TwinMachines.{IsProgramOf}
 use Rattle.program_analysis.specs.BoundedAnalyses.{IsBoundedReport}
 
 -- the run with the input ends, and costs at most the report's path bound
-pub record BoundedRun (program : NumberedProgram) (graph : GraphParts) (rows : List InputRow) (costs : CostTable) (report : Reported) (input : List ℤ) : Type 0 where
+pub record BoundedRun (program : NumberedProgram) (graph : GraphParts) (rows : List InputRow) (costs : CostTable)
+    (report : Reported) (input : List ℤ) : Type 0 where
   pub trace : List ℕ
   pub outcome : Outcome
   pub runs : Runs program graph.nodes (start program rows (words_of rows input)) trace outcome
   pub path : HasPathBound (λ b. cost_of (node_cost program costs) runs.run ≤ b.0) report
 
 -- the run with the one number of each range costs the report's path bound
-pub record LoneCost (program : NumberedProgram) (graph : GraphParts) (rows : List InputRow) (costs : CostTable) (report : Reported) : Type 0 where
+pub record LoneCost (program : NumberedProgram) (graph : GraphParts) (rows : List InputRow) (costs : CostTable)
+    (report : Reported) : Type 0 where
   pub trace : List ℕ
   pub outcome : Outcome
   pub runs : Runs program graph.nodes (lone_start program rows) trace outcome

@@ -46,11 +46,13 @@ told_not : (report : Reported) (scope : ℕ) → Told report ≡ Unbounded scope
 told_not report scope e = cc
 
 -- two path bounds of one report
-one_of : (bound : Option (ℕ × BoundWord)) (first second : ℕ) → IsOf (λ b. b.0 ≡ first) bound → IsOf (λ b. b.0 ≡ second) bound → first ≡ second
+one_of : (bound : Option (ℕ × BoundWord)) (first second : ℕ) → IsOf (λ b. b.0 ≡ first) bound
+    → IsOf (λ b. b.0 ≡ second) bound → first ≡ second
 one_of None first second h k = absurd h
 one_of (Some b) first second h k = sym h ∙ k
 
-under : (bound : Option (ℕ × BoundWord)) (cost most : ℕ) → IsOf (λ b. cost ≤ b.0) bound → IsOf (λ b. b.0 ≡ most) bound → cost ≤ most
+under : (bound : Option (ℕ × BoundWord)) (cost most : ℕ) → IsOf (λ b. cost ≤ b.0) bound → IsOf (λ b. b.0 ≡ most) bound
+    → cost ≤ most
 under None cost most h k = absurd h
 under (Some b) cost most h k = subst (λ (n : ℕ). cost ≤ n) k h
 
@@ -81,10 +83,13 @@ module _ (b : PathBounder) where
     turns = suits.turns;
   }
 
-  pub one_answer : (area : Area) (first second : Bounded) → Suits b area → Answered area first → Answered area second → first ≡ second
+  pub one_answer : (area : Area) (first second : Bounded) → Suits b area → Answered area first → Answered area second
+      → first ≡ second
   one_answer area first second suits = from first second
     where
-      same : (a c : Answer) → IsBoundedAnalysis program b.graph (with_ranges rows area) b.costs b.policy b.turns b.pivots a → IsBoundedAnalysis program b.graph (with_ranges rows area) b.costs b.policy b.turns b.pivots c → a ≡ c
+      same : (a c : Answer)
+          → IsBoundedAnalysis program b.graph (with_ranges rows area) b.costs b.policy b.turns b.pivots a
+          → IsBoundedAnalysis program b.graph (with_ranges rows area) b.costs b.policy b.turns b.pivots c → a ≡ c
       same a c = suits.promises.one program b.graph (with_ranges rows area) b.costs b.policy b.turns b.pivots a c
 
       from : (first second : Bounded) → Answered area first → Answered area second → first ≡ second
@@ -103,7 +108,8 @@ module _ (b : PathBounder) where
         h.is ∙ ap (cost_of (node_cost program b.costs)) same.same_nodes ∙ sym k.is
 
     -- a run from a start of the rows with the area's ranges is one of the rows
-    moved : (begin : Moment) (trace : List ℕ) (outcome : Outcome) → begin ≡ start program (with_ranges rows area) (words_of (with_ranges rows area) input)
+    moved : (begin : Moment) (trace : List ℕ) (outcome : Outcome)
+        → begin ≡ start program (with_ranges rows area) (words_of (with_ranges rows area) input)
         → (runs : Runs program b.graph.nodes begin trace outcome) → Costs input (cost_of (node_cost program b.costs) runs.run)
     moved begin trace outcome is runs = record {
       trace = trace;
@@ -116,7 +122,9 @@ module _ (b : PathBounder) where
       is = refl;
     }
 
-    pub bounds : (bound : ℕ) → HasPathBoundAt program b.graph (with_ranges rows area) b.costs b.policy b.turns b.pivots bound → IsInside area input → CostsAtMost Costs input bound
+    pub bounds : (bound : ℕ)
+        → HasPathBoundAt program b.graph (with_ranges rows area) b.costs b.policy b.turns b.pivots bound
+        → IsInside area input → CostsAtMost Costs input bound
     bounds bound h inside =
         let one = found_bounds program b.graph (with_ranges rows area) b.costs b.policy b.turns b.pivots h.report h.found suits.promises.right input (inside_within rows area input suits.long inside) in
         let cost : ℕ = cost_of (node_cost program b.costs) one.runs.run in
@@ -124,7 +132,9 @@ module _ (b : PathBounder) where
         let low : cost ≤ bound = under h.report.path_bound cost bound one.path h.is in
         record { some = (cost, has); most = λ other is. subst (λ (n : ℕ). n ≤ bound) (one_cost cost other has is) low }
 
-    pub point_exact : (bound : ℕ) → IsPoint area → HasPathBoundAt program b.graph (with_ranges rows area) b.costs b.policy b.turns b.pivots bound → IsInside area input → CostsExactly Costs input bound
+    pub point_exact : (bound : ℕ) → IsPoint area
+        → HasPathBoundAt program b.graph (with_ranges rows area) b.costs b.policy b.turns b.pivots bound
+        → IsInside area input → CostsExactly Costs input bound
     point_exact bound point h inside =
         let lone : AreLone (with_ranges rows area) = lone_rows rows area point in
         let one = lone_costs program b.graph (with_ranges rows area) b.costs b.policy b.turns b.pivots h.report h.found suits.promises.exact suits.promises.agree lone in

@@ -56,7 +56,8 @@ module _ (o other : Outlined) (alike : AreAlike o other) where
     multipliers = is.multipliers ∙ ap (λ (p : Program). length p.rows) (rows_same report);
   }
 
-  found_along : (found : Found) (report : Reported) (cert : Certificate) → found_objection o found report cert ≡ found_objection other found report cert
+  found_along : (found : Found) (report : Reported) (cert : Certificate)
+      → found_objection o found report cert ≡ found_objection other found report cert
   found_along found report cert =
       let alarm : alarm_objection o found report.facts ≡ alarm_objection other found report.facts =
       ap (λ (k : ℕ). first k (λ n. first_lacking report.facts (alarm_at found.alarms n) n all_faults)) count_same in
@@ -74,7 +75,8 @@ module _ (o other : Outlined) (alike : AreAlike o other) where
 -- ---- events
 
 module _ {S T C : Type 0} (machine : S → Machine T C) (states : Order T) where
-  pub events_along : (events : List Event) (old new : Pooled S T FourRecorders FourBooks) (other : Outlined) → AreTwins four_recording old.outline other
+  pub events_along : (events : List Event) (old new : Pooled S T FourRecorders FourBooks) (other : Outlined)
+      → AreTwins four_recording old.outline other
       → HappenAll machine states four_order four_recording old events new
       → HappenAll machine states four_order four_recording (along old other) events (along new other)
   events_along [] old new other twins is = ap (λ (w : Pooled S T FourRecorders FourBooks). along w other) is
@@ -85,7 +87,8 @@ module _ {S T C : Type 0} (machine : S → Machine T C) (states : Order T) where
         events_along events mid new other (subst (λ (o : Outlined). AreTwins four_recording o other) (sym on.outline) twins) rest,
       )
 
-  happen_along : (events : List Event) (stepper : S) (o other : Outlined) (w : Pooled S T FourRecorders FourBooks) → AreAlike o other
+  happen_along : (events : List Event) (stepper : S) (o other : Outlined) (w : Pooled S T FourRecorders FourBooks)
+      → AreAlike o other
       → HappenAll machine states four_order four_recording (opened machine four_recording stepper o) events w
       → HappenAll machine states four_order four_recording (opened machine four_recording stepper other) events (along w other)
   happen_along events stepper o other w alike happen =
@@ -102,7 +105,8 @@ module _ {S T C : Type 0} (machine : S → Machine T C) (states : Order T) where
       ∙ ap (λ (t : Option Objection). or_else (left_objection other w.spots) t) (found_along w.outline other alike_here (found_of w) report cert)
 
   -- an answer along the one is one along the other
-  pub checked_along : (stepper : S) (o other : Outlined) (report : Reported) (answer : Option Objection) → AreAlike o other → IsChecked machine states stepper o report answer
+  pub checked_along : (stepper : S) (o other : Outlined) (report : Reported) (answer : Option Objection)
+      → AreAlike o other → IsChecked machine states stepper o report answer
       → IsChecked machine states stepper other report answer
   checked_along stepper o other report answer alike (uncertified absent is) = uncertified absent is
   checked_along stepper o other report answer alike (unshaped cert there less is) =

@@ -30,13 +30,15 @@ use Rattle.program_checks.specs.Sound.{IsSound, AcceptedAreSound}
 -- ---- the lesser of both bounds
 
 -- a number that no run costs more than, at most each bound
-record IsLesser {C : Type 0} (system : System C) (o : Outlined) (report : Reported) (bound : Option (ℕ × BoundWord)) : Type 0 where
+record IsLesser {C : Type 0} (system : System C) (o : Outlined) (report : Reported)
+    (bound : Option (ℕ × BoundWord)) : Type 0 where
   v : ℕ
   count : v ≤ report.count_bound
   path : IfSome bound (λ b. v ≤ b.0)
   sound : IsSoundSystem system o (with_count_bound report v)
 
-lesser : {C : Type 0} (system : System C) (o : Outlined) (report : Reported) → IsSoundSystem system o report → (bound : Option (ℕ × BoundWord))
+lesser : {C : Type 0} (system : System C) (o : Outlined) (report : Reported) → IsSoundSystem system o report
+    → (bound : Option (ℕ × BoundWord))
     → IfSome bound (λ b. CostAtMost system o b.0) → IsLesser system o report bound
 lesser system o report sound None most = record { v = report.count_bound; count = omega arith; path = tt; sound = sound }
 lesser system o report sound (Some b) most =
@@ -57,7 +59,8 @@ under None c v low within = tt
 under (Some b) c v low within = omega (arith, low, within)
 
 -- a report that is sound for the system of the machine is sound for the program
-pub sound_report : SoundForSystemIsSound → (parts : StepperParts) (o : Outlined) (costs : CostTable) (report : Reported) → IsKept (seen parts.checked) → IsGraph (seen parts.checked) parts.graph
+pub sound_report : SoundForSystemIsSound → (parts : StepperParts) (o : Outlined) (costs : CostTable) (report : Reported)
+    → IsKept (seen parts.checked) → IsGraph (seen parts.checked) parts.graph
     → HasCosts (seen parts.checked) parts.graph costs o → IsSoundReport (stepped_by parts).system o report
     → IsSound (seen parts.checked) parts.graph parts.rows (shape_of o) costs report
 sound_report law parts o costs report keeps is priced sound start from =

@@ -42,7 +42,8 @@ module _ {S T C : Type 0} (machine : S → Machine T C) (states : Order T) (Twin
       let after = events_beside events mid new one.others (subst (λ (s : S). AreTwins (machine s) (machine other) states Twin) (sym on.stepper) twins) one.beside_new rest in
       record { others = after.others; beside_new = after.beside_new; happen = (beside mid other one.others, one.happens, after.happen) }
 
-  left_same : (o : Outlined) (xs ys : List (Spot T FourRecorders)) → AllZip (IsBeside Twin) xs ys → left_objection o xs ≡ left_objection o ys
+  left_same : (o : Outlined) (xs ys : List (Spot T FourRecorders)) → AllZip (IsBeside Twin) xs ys
+      → left_objection o xs ≡ left_objection o ys
   left_same o [] [] h = refl
   left_same o [] (y ∷ ys) h = absurd h
   left_same o (x ∷ xs) [] h = absurd h
@@ -53,7 +54,8 @@ module _ {S T C : Type 0} (machine : S → Machine T C) (states : Order T) (Twin
   end_same w others report cert h = ap (λ (t : Option Objection). or_else t (found_objection w.outline (found_of w) report cert)) (left_same w.outline w.spots others h)
 
   -- an answer by the one is one by the other
-  pub checked_beside : (stepper : S) (o : Outlined) (report : Reported) (answer : Option Objection) → AreTwins (machine stepper) (machine other) states Twin
+  pub checked_beside : (stepper : S) (o : Outlined) (report : Reported) (answer : Option Objection)
+      → AreTwins (machine stepper) (machine other) states Twin
       → Twin (machine stepper).first (machine other).first → IsChecked machine states stepper o report answer → IsChecked machine states other o report answer
   checked_beside stepper o report answer twins twin (uncertified absent is) = uncertified absent is
   checked_beside stepper o report answer twins twin (unshaped cert there less is) = unshaped cert there less is

@@ -20,7 +20,8 @@ use Rattle.report_objections.specs.declared.objection.Objection.{Objection}
 use Rattle.report_objections.specs.Checks.{IsChecked}
 
 -- so is the answer
-pub record IsCheckOf (program : NumberedProgram) (graph : GraphParts) (rows : List InputRow) (costs : CostTable) (report : Reported) (answer : Option Objection) : Type 0 where
+pub record IsCheckOf (program : NumberedProgram) (graph : GraphParts) (rows : List InputRow) (costs : CostTable)
+    (report : Reported) (answer : Option Objection) : Type 0 where
   pub checked : CheckedParts
   pub keeps : IsKept (seen checked)
   pub graph_is : IsGraph (seen checked) graph

@@ -25,7 +25,8 @@ use Rattle.report_objections.specs.Accepted.{IsScaled}
 use Rattle.report_objections.specs.Checks.{IsChecked}
 
 -- the run from the start ends; it meets each fact, its fault has an alarm, and it costs no more than each bound
-pub record IsSoundFor (program : NumberedProgram) (graph : GraphParts) (o : Shape) (costs : CostTable) (report : Reported) (start : Moment) : Type 0 where
+pub record IsSoundFor (program : NumberedProgram) (graph : GraphParts) (o : Shape) (costs : CostTable)
+    (report : Reported) (start : Moment) : Type 0 where
   pub trace : List ℕ
   pub outcome : Outcome
   pub runs : Runs program graph.nodes start trace outcome

@@ -41,11 +41,15 @@ pub fn objection_to_report(
     requires scaled { IsScaled (reported report.now) }
 
     // The answer is the first of the objections that holds.
-    ensures answer { IfOk result (λ objection. IsChecked stepped_by parts_order (record { checked = checked.now; graph = graph.now; rows = rows.now }) outline.now (reported report.now) objection) }
+    ensures answer { IfOk result
+        (λ objection. IsChecked stepped_by parts_order
+        (record { checked = checked.now; graph = graph.now; rows = rows.now }) outline.now (reported report.now)
+        objection) }
 
-    // Where nothing speaks against it, each run of the program ends, meets each fact, faults only where an alarm says so, and
-    // costs at most each bound.
-    ensures sound { IfOk result (λ objection. objection ≡ None → (costs : CostTable) → HasCosts (seen checked.now) graph.now costs outline.now
+    // Where nothing speaks against it, each run of the program ends, meets each fact, faults only where an alarm says
+    // so, and costs at most each bound.
+    ensures sound { IfOk result
+        (λ objection. objection ≡ None → (costs : CostTable) → HasCosts (seen checked.now) graph.now costs outline.now
         → IsSound (seen checked.now) graph.now rows.now (shape_of outline.now) costs (reported report.now)) }
 {
     checked.keeps();
@@ -64,8 +68,11 @@ fn objection_along(
 ) -> Result<Option<Objection>, AllocError>
     requires outline { IsOutlineOf (plan_of stepper.now.graph) (shape_of outline.now) }
     requires scaled { IsScaled (reported report.now) }
-    ensures answer { IfOk result (λ objection. IsChecked stepped_by parts_order stepper.now outline.now (reported report.now) objection) }
-    ensures sound { IfOk result (λ objection. objection ≡ None → IsSoundReport (stepped_by stepper.now).system outline.now (reported report.now)) }
+    ensures answer { IfOk result
+        (λ objection. IsChecked stepped_by parts_order stepper.now outline.now (reported report.now) objection) }
+    ensures sound { IfOk result
+        (λ objection. objection ≡ None
+        → IsSoundReport (stepped_by stepper.now).system outline.now (reported report.now)) }
 {
     stepper.goes_along();
     let objection = objection_to(alloc, stepper, outline, report)?;

@@ -1,9 +1,9 @@
 //! The check of a report of unknown origin, for a program.
 //!
 //! `objection_to_report` answers the first thing that speaks against a report, by the events and the multipliers of its
-//! certificate. Where nothing does, the report is sound for each run of the program from inputs inside the ranges: whoever
-//! made it, and whatever its events are, need not be trusted. A report has one answer, whatever parts the code has the
-//! program in.
+//! certificate. Where nothing does, the report is sound for each run of the program from inputs inside the ranges:
+//! whoever made it, and whatever its events are, need not be trusted. A report has one answer, whatever parts the code
+//! has the program in.
 #![tactic(auto)]
 
 // The check.

@@ -27,7 +27,8 @@ same_alike {A = A} (Err x) (Ok b) e = cc
 same_alike {A = A} (Err x) (Err y) e = alike x y cc
 
 -- an outcome by its parts
-pub outcome_is : (x : Outcome) (cause : Cause) (text : List ℕ) → x.cause ≡ cause → x.text ≡ text → x ≡ record { cause = cause; text = text }
+pub outcome_is : (x : Outcome) (cause : Cause) (text : List ℕ) → x.cause ≡ cause → x.text ≡ text
+    → x ≡ record { cause = cause; text = text }
 outcome_is x cause text e f = λ i. record { cause = e i; text = f i }
 
 -- ---- the program that bytes spell
@@ -55,7 +56,8 @@ module _ (bytes : List ℕ) (one : HasOneMeaning bytes) where
       only (Err o) (d, k, e) = departs_not d whole k h
 
   -- the line of the departure that was met is the only meaning
-  pub departed_only : (o : Option Departure) (text : List ℕ) → IsSomeAnd o (λ departure. text ≡ fault_line departure) → IfSome o (λ departure. Means bytes (Err departure))
+  pub departed_only : (o : Option Departure) (text : List ℕ) → IsSomeAnd o (λ departure. text ≡ fault_line departure)
+      → IfSome o (λ departure. Means bytes (Err departure))
       → IsOnly (ProgramMeans bytes) (Err (refused text))
   departed_only None text line h = absurd line
   departed_only (Some d) text line h = record { means = (d, h, ap refused line); only = only }
@@ -80,12 +82,16 @@ root_line root = name_line (codes "fault 24 root ") root
 
 -- what a line of the checks says
 data Says (whole : WholeProgram) (root : List ℕ) (outcome : Outcome) : Type 0 where
-  item : (fault : Fault) → earliest (faults_in whole) ≡ Some fault → outcome ≡ refused (item_line fault) → Says whole root outcome
-  cycle : (f : ℕ) → faults_in whole ≡ [] → OnCycle (calls_in whole) f → outcome.cause ≡ Example → Says whole root outcome
-  rootless : faults_in whole ≡ [] → ((f : ℕ) → OnCycle (calls_in whole) f → ⊥) → function_place whole.funcs root ≡ None → outcome ≡ refused (root_line root) → Says whole root outcome
+  item : (fault : Fault) → earliest (faults_in whole) ≡ Some fault → outcome ≡ refused (item_line fault)
+      → Says whole root outcome
+  cycle : (f : ℕ) → faults_in whole ≡ [] → OnCycle (calls_in whole) f → outcome.cause ≡ Example
+      → Says whole root outcome
+  rootless : faults_in whole ≡ [] → ((f : ℕ) → OnCycle (calls_in whole) f → ⊥) → function_place whole.funcs root ≡ None
+      → outcome ≡ refused (root_line root) → Says whole root outcome
 
 module _ (whole : WholeProgram) (root : List ℕ) where
-  says : (outcome : Outcome) (fault : CheckFault) → IsTold whole root fault → check_line fault ≡ Some outcome.text → outcome.cause ≡ check_cause fault → Says whole root outcome
+  says : (outcome : Outcome) (fault : CheckFault) → IsTold whole root fault → check_line fault ≡ Some outcome.text
+      → outcome.cause ≡ check_cause fault → Says whole root outcome
   says outcome (told.UnknownName name) h line cause = item (Unknown name) h (outcome_is outcome Source _ cause (sym (some_is _ _ line)))
   says outcome (told.DuplicateName name) h line cause = item (Duplicate name) h (outcome_is outcome Source _ cause (sym (some_is _ _ line)))
   says outcome (told.Size name number) h line cause = item (Size name number) h (outcome_is outcome Source _ cause (sym (some_is _ _ line)))
@@ -117,7 +123,8 @@ module _ (whole : WholeProgram) (root : List ℕ) where
   says_one x y (rootless none falls gone is) (rootless other without nothing at) = alike x y (is ∙ sym at)
 
   -- the program that passes is the only meaning
-  pub passes_only : (program : NumberedProgram) → Passes whole root → program ≡ numbered whole root → IsOnly (CheckMeans whole root) (Ok program)
+  pub passes_only : (program : NumberedProgram) → Passes whole root → program ≡ numbered whole root
+      → IsOnly (CheckMeans whole root) (Ok program)
   passes_only program passes is = record { means = (passes, is); only = only }
     where
       only : (y : Result NumberedProgram Outcome) → CheckMeans whole root y → AreAlikeResults (Ok program) y
@@ -125,7 +132,8 @@ module _ (whole : WholeProgram) (root : List ℕ) where
       only (Err o) k = pass_not o (says o k.fault k.told k.line k.cause) passes
 
   -- the line of the fault that was met is the only meaning
-  pub told_only : (fault : CheckFault) (cause : Cause) (text : List ℕ) → IsTold whole root fault → check_line fault ≡ Some text → cause ≡ check_cause fault
+  pub told_only : (fault : CheckFault) (cause : Cause) (text : List ℕ) → IsTold whole root fault
+      → check_line fault ≡ Some text → cause ≡ check_cause fault
       → IsOnly (CheckMeans whole root) (Err (record { cause = cause; text = text }))
   told_only fault cause text h line is = record { means = record { fault = fault; told = h; line = line; cause = is }; only = only }
     where

@@ -23,7 +23,8 @@ data Says (program : NumberedProgram) (text : List ℕ) : Type 0 where
   edges : HasMoreEdges program most_edges → text ≡ limit_line which.Edges 1025 → Says program text
 
 module _ (program : NumberedProgram) where
-  limit : (which : Which) (count : ℕ) (text : List ℕ) → LimitTells which count (HasMoreNodes program most_nodes) (HasMoreEdges program most_edges)
+  limit : (which : Which) (count : ℕ) (text : List ℕ)
+      → LimitTells which count (HasMoreNodes program most_nodes) (HasMoreEdges program most_edges)
       → limit_line which count ≡ text → Says program text
   limit which.Bytes count text h line = absurd h
   limit which.Depth count text h line = absurd h
@@ -39,7 +40,9 @@ module _ (program : NumberedProgram) where
   limit which.Statements count text h line = absurd h
   limit which.Tasks count text h line = absurd h
 
-  says : (fault : GraphFault) (text : List ℕ) → FaultTells fault (HasMoreNodes program most_nodes) (HasMoreEdges program most_edges) → graph_line fault ≡ Some text → Says program text
+  says : (fault : GraphFault) (text : List ℕ)
+      → FaultTells fault (HasMoreNodes program most_nodes) (HasMoreEdges program most_edges)
+      → graph_line fault ≡ Some text → Says program text
   says (faults.Limit which count) text h line = limit which count text h (some_is _ _ line)
   says faults.Memory text h line = absurd (cc)
 
@@ -64,7 +67,9 @@ module _ (program : NumberedProgram) where
         only (Ok other) k = one graph other is k
         only (Err o) k = graph_not graph o.text is (says k.fault o.text k.told k.line)
 
-    pub limit_only : (fault : GraphFault) (text : List ℕ) → FaultTells fault (HasMoreNodes program most_nodes) (HasMoreEdges program most_edges) → graph_line fault ≡ Some text
+    pub limit_only : (fault : GraphFault) (text : List ℕ)
+        → FaultTells fault (HasMoreNodes program most_nodes) (HasMoreEdges program most_edges)
+        → graph_line fault ≡ Some text
         → IsOnly (GraphMeans program) (Err (refused text))
     limit_only fault text h line = record { means = record { fault = fault; told = h; line = line; cause = refl }; only = only }
       where

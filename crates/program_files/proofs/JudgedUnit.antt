@@ -1,4 +1,5 @@
--- The unit that bytes spell, or the line of their first departure, is their only meaning; and so is what the checks answer of it.
+-- The unit that bytes spell, or the line of their first departure, is their only meaning; and so is what the checks
+-- answer of it.
 use Rattle.std.proofs.Common.{◌≡◌, ℕ, true, false, List, [], Result, Ok, Err, Option, None, Some, IfSome, IsSomeAnd, refl, ap, sym, ◌∙◌, subst}
 use Rattle.graph_walks.specs.Calls.{RanksRuleOutCycles}
 use Rattle.c_unit.specs.Units.{UnitTree}
@@ -38,7 +39,8 @@ module _ (bytes : List ℕ) (one : HasOneMeaning bytes) where
       only (Err o) (d, k, e) = departs_not d whole k h
 
   -- the line of the departure that was met is the only meaning
-  pub unit_departed_only : (o : Option Departure) (text : List ℕ) → IsSomeAnd o (λ departure. text ≡ unit_line departure) → IfSome o (λ departure. Means bytes (Err departure))
+  pub unit_departed_only : (o : Option Departure) (text : List ℕ)
+      → IsSomeAnd o (λ departure. text ≡ unit_line departure) → IfSome o (λ departure. Means bytes (Err departure))
       → IsOnly (UnitMeans bytes) (Err (refused text))
   unit_departed_only None text line h = absurd line
   unit_departed_only (Some d) text line h = record { means = (d, h, ap refused line); only = only }
@@ -53,7 +55,8 @@ some_is : {A : Type 0} (x y : A) → Some x ≡ Some y → x ≡ y
 some_is x y e = cc
 
 -- what a fault says is what the checks refuse the unit by
-pub told_refuses : (unit : UnitTree) (root : List ℕ) (fault : CFault) (refusal : Refusal) → IsTold unit root fault → refusal_of fault ≡ Some refusal → Refuses unit root refusal
+pub told_refuses : (unit : UnitTree) (root : List ℕ) (fault : CFault) (refusal : Refusal) → IsTold unit root fault
+    → refusal_of fault ≡ Some refusal → Refuses unit root refusal
 told_refuses unit root (faults.UnknownName name) refusal h e = subst (Refuses unit root) (some_is _ _ e) h
 told_refuses unit root (faults.Duplicate name) refusal h e = subst (Refuses unit root) (some_is _ _ e) h
 told_refuses unit root (faults.Mistyped place) refusal h e = subst (Refuses unit root) (some_is _ _ e) h
@@ -84,7 +87,8 @@ module _ (unit : UnitTree) (root : List ℕ) where
   passes_not rule _ passes (by_root none falls gone) = not_rooted passes.is_program.rooted gone
 
   -- two refusals of one unit are alike
-  refusals_one : (a b : Refusal) → Refuses unit root a → Refuses unit root b → AreAlike (refusal_told a) (refusal_told b)
+  refusals_one : (a b : Refusal) → Refuses unit root a → Refuses unit root b
+      → AreAlike (refusal_told a) (refusal_told b)
   refusals_one a b (by_text e) (by_text f) = alike (refusal_told a) (refusal_told b) (ap refusal_told (some_is a b (sym e ∙ f)))
   refusals_one a _ (by_text e) (by_cycle none first) = absurd (not_both a e none)
   refusals_one a _ (by_text e) (by_root none falls gone) = absurd (not_both a e none)
@@ -105,19 +109,23 @@ module _ (unit : UnitTree) (root : List ℕ) where
         only (Err o) k = passes_not rule k.refusal passes k.refuses
 
     -- the line of the refusal is the only meaning
-    pub refused_only : (refusal : Refusal) → Refuses unit root refusal → IsOnly (UnitCheckMeans unit root) (Err (refusal_told refusal))
+    pub refused_only : (refusal : Refusal) → Refuses unit root refusal
+        → IsOnly (UnitCheckMeans unit root) (Err (refusal_told refusal))
     refused_only refusal h = record { means = record { refusal = refusal; refuses = h; line = refl }; only = only }
       where
-        only : (y : Result UnitTree Outcome) → UnitCheckMeans unit root y → AreAlikeResults (Err (refusal_told refusal)) y
+        only : (y : Result UnitTree Outcome) → UnitCheckMeans unit root y
+            → AreAlikeResults (Err (refusal_told refusal)) y
         only (Ok other) k = passes_not rule refusal k.0 h
         only (Err o) k = subst (AreAlike (refusal_told refusal)) (sym k.line) (refusals_one refusal k.refusal h k.refuses)
 
     -- and so it is of a fault of the code
-    pub fault_only : (fault : CFault) (cause : Cause) (text : List ℕ) → IsTold unit root fault → IsSomeAnd (refusal_of fault) (λ refusal. text ≡ refusal_line refusal)
+    pub fault_only : (fault : CFault) (cause : Cause) (text : List ℕ) → IsTold unit root fault
+        → IsSomeAnd (refusal_of fault) (λ refusal. text ≡ refusal_line refusal)
         → IfSome (refusal_of fault) (λ refusal. cause ≡ refusal_cause refusal) → (unread_of cause ≡ None) × IsOnly (UnitCheckMeans unit root) (Err (record { cause = cause; text = text }))
     fault_only fault cause text h line is = by_refusal (refusal_of fault) refl line is
       where
-        by_refusal : (o : Option Refusal) → refusal_of fault ≡ o → IsSomeAnd o (λ refusal. text ≡ refusal_line refusal) → IfSome o (λ refusal. cause ≡ refusal_cause refusal)
+        by_refusal : (o : Option Refusal) → refusal_of fault ≡ o → IsSomeAnd o (λ refusal. text ≡ refusal_line refusal)
+            → IfSome o (λ refusal. cause ≡ refusal_cause refusal)
             → (unread_of cause ≡ None) × IsOnly (UnitCheckMeans unit root) (Err (record { cause = cause; text = text }))
         by_refusal None e line is = absurd line
         by_refusal (Some refusal) e line is =

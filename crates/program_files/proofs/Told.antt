@@ -33,7 +33,8 @@ told_numbered file root told before whole after (Ok checked) g judged = told_tex
 told_numbered file root told before whole after (Err stop) g judged = tt
 
 -- a unit of C
-told_unit : (file root : List ℕ) (told : Option Files) (before : Log) (read unit : UnitTree) (after : Log) → (unit_in file).steps.Gives told before read after
+told_unit : (file root : List ℕ) (told : Option Files) (before : Log) (read unit : UnitTree) (after : Log)
+    → (unit_in file).steps.Gives told before read after
     → UnitCheckMeans read root (Ok unit) → IfSome told (λ files. IsToldUnit file root files unit)
 unfolding unit_in
 told_unit file root None before read unit after g checks = tt
@@ -53,7 +54,8 @@ told_checked file root told before unit after (Err stop) g judged = tt
 -- ---- lowering
 
 -- told files say what a unit was lowered to
-pub told_lowered : (file root name : List ℕ) (told : Option Files) (unit : UnitTree) (checked : CheckedParts) → IfSome told (λ files. IsToldUnit file root files unit)
+pub told_lowered : (file root name : List ℕ) (told : Option Files) (unit : UnitTree) (checked : CheckedParts)
+    → IfSome told (λ files. IsToldUnit file root files unit)
     → name ≡ root → seen checked ≡ numbered (lowered unit) name → HasUnitsOutcomes unit name (seen checked)
     → IfSome told (λ files. IsProgramOfUnit file root files (seen checked))
 told_lowered file root name None unit checked h named is outcomes = tt

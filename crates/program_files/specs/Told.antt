@@ -33,9 +33,9 @@ pub record IsToldUnit (file root : List ℕ) (files : Files) (unit : UnitTree) :
   pub spelled : SpellsUnit bytes unit
   pub passes : PassesChecks unit root
 
--- the file spells such a unit, and this is the program that it is lowered to; the run of it from each list of numbers inside their ranges
--- has the outcome of the unit from the cells that hold these numbers: what the unit returns and leaves in its global integers, its fault,
--- or no end
+-- the file spells such a unit, and this is the program that it is lowered to; the run of it from each list of numbers
+-- inside their ranges has the outcome of the unit from the cells that hold these numbers: what the unit returns and
+-- leaves in its global integers, its fault, or no end
 pub record IsProgramOfUnit (file root : List ℕ) (files : Files) (program : NumberedProgram) : Type 0 where
   pub unit : UnitTree
   pub unit_told : IsToldUnit file root files unit

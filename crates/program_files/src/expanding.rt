@@ -36,7 +36,9 @@ fn lowered_in<F: Shelf>(
     shelf: &mut F,
 ) -> Result<Checked, Stop>
     ensures work { Works (lowered_in file.now root.now) seen (F.state shelf.old) result (F.state shelf.new) }
-    ensures told { IfOk result (λ checked. IfSome (F.state shelf.old).files (λ files. IsProgramOfUnit file.now root.now files (seen checked))) }
+    ensures told { IfOk result
+        (λ checked. IfSome (F.state shelf.old).files
+        (λ files. IsProgramOfUnit file.now root.now files (seen checked))) }
 {
     let program = checked_unit_in(alloc, file, root, shelf)?;
     let checked = lower(alloc, &program)?;
@@ -50,8 +52,11 @@ pub fn checked_in<F: Shelf>(
     root: &str,
     shelf: &mut F,
 ) -> Result<Checked, Stop>
-    ensures work { Works (checked_in (file_meant program.entry) root.now) seen (F.state shelf.old) result (F.state shelf.new) }
-    ensures told { IfOk result (λ checked. IfSome (F.state shelf.old).files (λ files. IsToldProgram (file_meant program.entry) root.now files (seen checked))) }
+    ensures work { Works (checked_in (file_meant program.entry) root.now) seen (F.state shelf.old) result
+        (F.state shelf.new) }
+    ensures told { IfOk result
+        (λ checked. IfSome (F.state shelf.old).files
+        (λ files. IsToldProgram (file_meant program.entry) root.now files (seen checked))) }
 {
     match program {
         ProgramFile::Alf(file) => numbered_in(alloc, file, root, shelf),
@@ -83,9 +88,12 @@ pub fn expanded_in<F: Shelf>(
     root: &str,
     shelf: &mut F,
 ) -> Result<Expanded, Stop>
-    ensures work { Works (expanded_in (file_meant program.entry) root.now) expanded_of (F.state shelf.old) result (F.state shelf.new) }
+    ensures work { Works (expanded_in (file_meant program.entry) root.now) expanded_of (F.state shelf.old) result
+        (F.state shelf.new) }
     ensures graph { IfOk result (λ expanded. IsGraph (seen expanded.checked) expanded.graph) }
-    ensures told { IfOk result (λ expanded. IfSome (F.state shelf.old).files (λ files. IsToldProgram (file_meant program.entry) root.now files (seen expanded.checked))) }
+    ensures told { IfOk result
+        (λ expanded. IfSome (F.state shelf.old).files
+        (λ files. IsToldProgram (file_meant program.entry) root.now files (seen expanded.checked))) }
 {
     let checked = checked_in(alloc, program, root, shelf)?;
     let graph = graph_of(alloc, &checked)?;

@@ -25,7 +25,8 @@ pub const TOO_LONG: &str = "fault 13 limit bytes 1048577\n";
 /// The program that the file spells.
 #[tactic(auto, unfolding(crate::specs::Programs::program_in))]
 pub fn program_in<F: Shelf>(alloc: Global, file: &str, shelf: &mut F) -> Result<Program, Stop>
-    ensures work { Works (program_in file.now) (λ program. program_of program) (F.state shelf.old) result (F.state shelf.new) }
+    ensures work { Works (program_in file.now) (λ program. program_of program) (F.state shelf.old) result
+        (F.state shelf.new) }
     ensures written { IfOk result (λ program. IsWritable (program_of program)) }
 {
     let bytes = read_file(
@@ -63,7 +64,9 @@ pub fn numbered_in<F: Shelf>(
     shelf: &mut F,
 ) -> Result<Checked, Stop>
     ensures work { Works (numbered_in file.now root.now) seen (F.state shelf.old) result (F.state shelf.new) }
-    ensures told { IfOk result (λ checked. IfSome (F.state shelf.old).files (λ files. IsProgramOfText file.now root.now files (seen checked))) }
+    ensures told { IfOk result
+        (λ checked. IfSome (F.state shelf.old).files
+        (λ files. IsProgramOfText file.now root.now files (seen checked))) }
 {
     let program = program_in(alloc, file, shelf)?;
     checked(alloc, program, root)

@@ -59,8 +59,11 @@ pub fn checked_unit_in<F: Shelf>(
     root: &str,
     shelf: &mut F,
 ) -> Result<CProgram, Stop>
-    ensures work { Works (checked_unit_in file.now root.now) (λ program. unit_of program.unit) (F.state shelf.old) result (F.state shelf.new) }
-    ensures told { IfOk result (λ program. IfSome (F.state shelf.old).files (λ files. IsToldUnit file.now root.now files (unit_of program.unit))) }
+    ensures work { Works (checked_unit_in file.now root.now) (λ program. unit_of program.unit) (F.state shelf.old)
+        result (F.state shelf.new) }
+    ensures told { IfOk result
+        (λ program. IfSome (F.state shelf.old).files
+        (λ files. IsToldUnit file.now root.now files (unit_of program.unit))) }
     ensures root { IfOk result (λ program. program.root ≡ root.now) }
 {
     let unit = unit_in(alloc, file, shelf)?;

@@ -23,7 +23,8 @@ use Rattle.program_machines.specs.ProgramRunLaws.{program_run}
 
 -- ---- two runs of one system that come to one point are one after it
 
-same_next : {C : Type 0} (system : System C) (run other : ℕ → Option (ℕ × C)) (k n : ℕ) (c : C) → IsOneWay system n c → GoesOn system run k n c → GoesOn system other k n c → run (suc k) ≡ other (suc k)
+same_next : {C : Type 0} (system : System C) (run other : ℕ → Option (ℕ × C)) (k n : ℕ) (c : C) → IsOneWay system n c
+    → GoesOn system run k n c → GoesOn system other k n c → run (suc k) ≡ other (suc k)
 same_next {C} system run other k n c way (inl (j, d, goes, next)) (inl (i, e, went, later)) =
     let same = way.next j i d e goes went in
     next ∙ ap (λ (m : ℕ). Some (m, d)) same.0 ∙ ap (λ (v : C). Some (i, v)) same.1 ∙ sym later
@@ -70,10 +71,13 @@ module _ (promises : Promises) (program : NumberedProgram) (graph : GraphParts) 
         let begun = (program_run promises program graph keeps is rows start from).first in absurd (none-some (0, begun.0) (sym none ∙ begun.1))
     last_before (suc t) none = go (points program graph start t) refl (last_before t)
       where
-        go : (point : Option (ℕ × List RunEvent)) → points program graph start t ≡ point → (points program graph start t ≡ None → IsLastPoint (points program graph start)) → IsLastPoint (points program graph start)
+        go : (point : Option (ℕ × List RunEvent)) → points program graph start t ≡ point
+            → (points program graph start t ≡ None → IsLastPoint (points program graph start))
+            → IsLastPoint (points program graph start)
         go None here before = before here
         go (Some point) here before = record { last = t; node = point.0; value = point.1; here = here; over = none }
 
     -- where the program's run ends, the system's is over
-    pub end_is_over : (trace : List ℕ) (outcome : Outcome) → Runs program graph.nodes start trace outcome → IsLastPoint (points program graph start)
+    pub end_is_over : (trace : List ℕ) (outcome : Outcome) → Runs program graph.nodes start trace outcome
+        → IsLastPoint (points program graph start)
     end_is_over trace outcome runs = last_before runs.ends.steps (ap (point_of graph) runs.ends.over)

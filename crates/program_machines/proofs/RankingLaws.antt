@@ -39,7 +39,8 @@ at_last f last i e = rw (eq-eqb (f i) last e) refl
 elsewhere : (f : ℕ → ℕ) (last i : ℕ) → f i ≢ last → closed_up f last i ≡ f i
 elsewhere f last i other = rw (ne_eqb (f i) last other) refl
 
-closed_low : (f : ℕ → ℕ) (last : ℕ) → ((n : ℕ) → n < suc last → f n < suc last) → AreOnce (suc last) f → (i : ℕ) → i < last → closed_up f last i < last
+closed_low : (f : ℕ → ℕ) (last : ℕ) → ((n : ℕ) → n < suc last → f n < suc last) → AreOnce (suc last) f → (i : ℕ)
+    → i < last → closed_up f last i < last
 closed_low f last within once i low =
     let here : f i < suc last = within i (omega arith) in
     let end : f last < suc last = within last (omega arith) in
@@ -71,7 +72,8 @@ record IsTaken (count : ℕ) (f : ℕ → ℕ) (r : ℕ) : Type 0 where
   low : by < count
   is : f by ≡ r
 
-taken : (count : ℕ) (f : ℕ → ℕ) → ((n : ℕ) → n < count → f n < count) → AreOnce count f → (r : ℕ) → r < count → IsTaken count f r
+taken : (count : ℕ) (f : ℕ → ℕ) → ((n : ℕ) → n < count → f n < count) → AreOnce count f → (r : ℕ) → r < count
+    → IsTaken count f r
 taken zero f within once r low = absurd (omega (arith, low))
 taken (suc last) f within once r low =
     let end : f last < suc last = within last (omega arith) in
@@ -98,7 +100,8 @@ module _ (Leads : ℕ → ℕ → Type 0) (count : ℕ) (within : (u v : ℕ) �
   AreSameBelow r = ((n : ℕ) → n < count → slice_index a n < r → slice_index b n ≡ slice_index a n) × ((n : ℕ) → n < count → slice_index b n < r → slice_index a n ≡ slice_index b n)
 
   -- the two nodes that have the rank r are one
-  no_earlier : (xs ys : List ℕ) → IsRanking Leads count xs → IsRanking Leads count ys → (r m n : ℕ) → m < n → n < count → slice_index xs m ≡ r → slice_index ys n ≡ r
+  no_earlier : (xs ys : List ℕ) → IsRanking Leads count xs → IsRanking Leads count ys → (r m n : ℕ) → m < n → n < count
+      → slice_index xs m ≡ r → slice_index ys n ≡ r
       → ((k : ℕ) → k < count → slice_index xs k < r → slice_index ys k ≡ slice_index xs k) → ((k : ℕ) → k < count → slice_index ys k < r → slice_index xs k ≡ slice_index ys k) → ⊥
   no_earlier xs ys x y r m n before low at_m at_n onto back =
       let not_same : slice_index ys m ≢ slice_index ys n = y.once m n before low in
@@ -116,7 +119,8 @@ module _ (Leads : ℕ → ℕ → Type 0) (count : ℕ) (within : (u v : ℕ) �
       let same : slice_index ys u ≡ slice_index xs u = onto u u_low (omega (arith, ready, at_m)) in
       omega (arith, ready, same, at_m, at_n))
 
-  same_at : (r : ℕ) → AreSameBelow r → (m n : ℕ) → m < count → n < count → slice_index a m ≡ r → slice_index b n ≡ r → m ≡ n
+  same_at : (r : ℕ) → AreSameBelow r → (m n : ℕ) → m < count → n < count → slice_index a m ≡ r → slice_index b n ≡ r
+      → m ≡ n
   same_at r below m n m_low n_low at_m at_n = elim (cases_order m n) [
     | inl same ↦ same
     | inr (inl before) ↦ absurd (no_earlier a b first second r m n before n_low at_m at_n below.0 below.1)

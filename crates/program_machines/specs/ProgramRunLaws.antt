@@ -25,7 +25,8 @@ use Rattle.transfer_rules.specs.TraceLaws.{trace_is_trace}
 use Rattle.program_machines.specs.ProgramRuns.{IsOverAs}
 
 -- one step more
-after_step : (program : NumberedProgram) (t : ℕ) (moment : Moment) → after program (suc t) moment ≡ step program (after program t moment)
+after_step : (program : NumberedProgram) (t : ℕ) (moment : Moment)
+    → after program (suc t) moment ≡ step program (after program t moment)
 after_step program zero moment = refl
 after_step program (suc t) moment = after_step program t (step program moment)
 
@@ -33,13 +34,15 @@ after_step program (suc t) moment = after_step program t (step program moment)
 
 module _ (promises : Promises) (program : NumberedProgram) (graph : GraphParts) (keeps : IsKept program) (is : IsGraph program graph) (rows : List InputRow) where
   -- each run of the program is a run of the system
-  pub program_run : (start : Moment) → IsStart program rows start → IsRun (run_system program graph rows) (points program graph start)
+  pub program_run : (start : Moment) → IsStart program rows start
+      → IsRun (run_system program graph rows) (points program graph start)
   program_run start from = point_run promises program graph keeps is rows start from
 
   -- ---- runs that are over
 
   module _ (start : Moment) (from : IsStart program rows start) where
-    kept_at : (t : ℕ) (node : Node) (history : List RunEvent) → after program t start ≡ At node history → IsKeptNode program node
+    kept_at : (t : ℕ) (node : Node) (history : List RunEvent) → after program t start ≡ At node history
+        → IsKeptNode program node
     kept_at t node history e = promises.kept program t (start_history program rows (words_of rows from.numbers)) history node (ap (after program t) (sym from.starts) ∙ e)
 
     at_number : (node : Node) → IsKeptNode program node → IsNodeAt graph.nodes (number_of graph.nodes node) node
@@ -54,7 +57,8 @@ module _ (promises : Promises) (program : NumberedProgram) (graph : GraphParts) 
     numbers_are (suc t) (Over outcome) kept = tt
 
     -- where the program's run is over after so many steps, its nodes have these numbers
-    ended_as : (t : ℕ) (outcome : Outcome) → after program t start ≡ Over outcome → Runs program graph.nodes start (reverse (trace_to (points program graph start) t)) outcome
+    ended_as : (t : ℕ) (outcome : Outcome) → after program t start ≡ Over outcome
+        → Runs program graph.nodes start (reverse (trace_to (points program graph start) t)) outcome
     ended_as t outcome over =
         let turned : reverse (trace_to (points program graph start) t) ≡ map (number_of graph.nodes) (trace program t start) =
         ap reverse (trace_is_trace program graph start t) ∙ reverse-reverse (map (number_of graph.nodes) (trace program t start)) in
@@ -65,10 +69,12 @@ module _ (promises : Promises) (program : NumberedProgram) (graph : GraphParts) 
         }
 
     -- where a run stands at its last point
-    pub stands_there : (t n : ℕ) (history : List RunEvent) → points program graph start t ≡ Some (n, history) → after program t start ≡ At (node_number graph n) history
+    pub stands_there : (t n : ℕ) (history : List RunEvent) → points program graph start t ≡ Some (n, history)
+        → after program t start ≡ At (node_number graph n) history
     stands_there t n history here = go (after program t start) refl here
       where
-        go : (moment : Moment) → after program t start ≡ moment → point_of graph moment ≡ Some (n, history) → after program t start ≡ At (node_number graph n) history
+        go : (moment : Moment) → after program t start ≡ moment → point_of graph moment ≡ Some (n, history)
+            → after program t start ≡ At (node_number graph n) history
         go (At node events) at point =
             let parts = same_Some (number_of graph.nodes node, events) (n, history) point in
             let number : number_of graph.nodes node ≡ n = ap (λ (p : ℕ × List RunEvent). p.0) parts in
@@ -78,19 +84,24 @@ module _ (promises : Promises) (program : NumberedProgram) (graph : GraphParts) 
         go (Over outcome) at point = absurd (none-some (n, history) point)
 
     -- one step more
-    next_after : (t n : ℕ) (history : List RunEvent) (result : Moment) → points program graph start t ≡ Some (n, history) → step program (moment_at graph n history) ≡ result → after program (suc t) start ≡ result
+    next_after : (t n : ℕ) (history : List RunEvent) (result : Moment)
+        → points program graph start t ≡ Some (n, history) → step program (moment_at graph n history) ≡ result
+        → after program (suc t) start ≡ result
     next_after t n history result here steps = after_step program t start ∙ ap (step program) (stands_there t n history here) ∙ steps
 
-    over_with : (last n : ℕ) (history : List RunEvent) (outcome : Outcome) → points program graph start last ≡ Some (n, history) → after program (suc last) start ≡ Over outcome
+    over_with : (last n : ℕ) (history : List RunEvent) (outcome : Outcome)
+        → points program graph start last ≡ Some (n, history) → after program (suc last) start ≡ Over outcome
         → Runs program graph.nodes start (reverse (n ∷ trace_to (points program graph start) last)) outcome
     over_with last n history outcome here over =
         subst (λ (point : Option (ℕ × List RunEvent)). Runs program graph.nodes start (reverse (with_node point (trace_to (points program graph start) last))) outcome) here (ended_as (suc last) outcome over)
 
     -- where the system's run is over, the program's has ended
-    pub over_is_over : (last n : ℕ) (history : List RunEvent) → points program graph start last ≡ Some (n, history) → points program graph start (suc last) ≡ None → IsOverAs program graph rows start last n history
+    pub over_is_over : (last n : ℕ) (history : List RunEvent) → points program graph start last ≡ Some (n, history)
+        → points program graph start (suc last) ≡ None → IsOverAs program graph rows start last n history
     over_is_over last n history here over = go ((program_run start from).on last n history here)
       where
-        go : GoesOn (run_system program graph rows) (points program graph start) last n history → IsOverAs program graph rows start last n history
+        go : GoesOn (run_system program graph rows) (points program graph start) last n history
+            → IsOverAs program graph rows start last n history
         go (inl (k, later, goes, next)) = absurd (none-some (k, later) (sym over ∙ next))
         go (inr (inl ends, past)) =
             record { outcome = Ended ends.outputs; ends = ends; runs = over_with last n history (Ended ends.outputs) here (next_after last n history (Over (Ended ends.outputs)) here ends.steps) }

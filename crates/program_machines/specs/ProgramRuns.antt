@@ -24,7 +24,8 @@ abbrev pub IsAliveTo : {C : Type 0} → (ℕ → Option (ℕ × C)) → ℕ → 
 IsAliveTo {C} run k = (j : ℕ) → j < k → (p : ℕ × C) × (run j ≡ Some p)
 
 -- the run of the program from some start inside the ranges, point by point until it is over
-pub record IsProgramRun (program : NumberedProgram) (graph : GraphParts) (rows : List InputRow) (run : ℕ → Option (ℕ × List RunEvent)) : Type 0 where
+pub record IsProgramRun (program : NumberedProgram) (graph : GraphParts) (rows : List InputRow)
+    (run : ℕ → Option (ℕ × List RunEvent)) : Type 0 where
   pub start : Moment
   pub inside : IsStart program rows start
   pub same : (k : ℕ) → IsAliveTo run k → run k ≡ points program graph start k
@@ -36,7 +37,8 @@ EndsWith system n c (Faulted fault) = system.fails n c fault
 EndsWith system n c Lost = ⊥
 
 -- the run of the program from the start is over after the nodes up to this moment, with the outcome of the system's run
-pub record IsOverAs (program : NumberedProgram) (graph : GraphParts) (rows : List InputRow) (start : Moment) (last n : ℕ) (history : List RunEvent) : Type 0 where
+pub record IsOverAs (program : NumberedProgram) (graph : GraphParts) (rows : List InputRow) (start : Moment)
+    (last n : ℕ) (history : List RunEvent) : Type 0 where
   pub outcome : Outcome
   pub ends : EndsWith (run_system program graph rows) n history outcome
   pub runs : Runs program graph.nodes start (reverse (n ∷ trace_to (points program graph start) last)) outcome

@@ -51,7 +51,8 @@ same_history : (a b : List RunEvent) → At first_node a ≡ At first_node b →
 same_history a b e = cc
 
 -- and one history of it
-pub one_history : (program : NumberedProgram) (rows : List InputRow) → AreLone rows → (c d : List RunEvent) → IsStart program rows (At first_node c) → IsStart program rows (At first_node d) → d ≡ c
+pub one_history : (program : NumberedProgram) (rows : List InputRow) → AreLone rows → (c d : List RunEvent)
+    → IsStart program rows (At first_node c) → IsStart program rows (At first_node d) → d ≡ c
 one_history program rows lone c d first second =
     let only = (alone program rows lone).only in
     same_history d c (only (At first_node d) second ∙ sym (only (At first_node c) first))

@@ -1,6 +1,7 @@
 //! What the definitions promise, as clauses of functions that do nothing.
 
-ghost use Rattle.program_machines.specs.ProgramRuns.{ProgramRunsAreSystemRuns, SystemRunsAreProgramRuns, OverIsOver, EndIsOver};
+ghost use Rattle.program_machines.specs.ProgramRuns.{ProgramRunsAreSystemRuns, SystemRunsAreProgramRuns, OverIsOver};
+ghost use Rattle.program_machines.specs.ProgramRuns.{EndIsOver};
 ghost use Rattle.program_machines.specs.Rankings.{HasOneRanking, HasOneShape};
 ghost use Rattle.program_machines.specs.Starts.{HasLoneStart};
 

@@ -18,7 +18,8 @@ part_small p q small is low high =
     record { low = omega (arith, ints, small.low, low); high = omega (arith, ints, small.high, high); order = is.order; rising = is.rising; near = omega (arith, ints, s, small.low, small.high, low, high) }
 
 -- a part that has no other numbers
-small_of : (p : Progression) (o : Option Progression) → IsSmall p → IfProgression o → ((n : ℤ) → HasSome o n → Has p n) → IfSmall o
+small_of : (p : Progression) (o : Option Progression) → IsSmall p → IfProgression o → ((n : ℤ) → HasSome o n → Has p n)
+    → IfSmall o
 small_of p None small is inside = tt
 small_of p (Some q) small is inside = part_small p q small is (inside q.lo (has_lo q is)).least (inside q.hi (has_hi q is)).most
 

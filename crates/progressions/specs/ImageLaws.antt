@@ -33,7 +33,8 @@ negated_is p is = record {
 
 -- Sums and differences.
 
-sums_aligned : (p q : Progression) (n m : ℤ) → Divides p.step (n -ℤ p.lo) → Divides q.step (m -ℤ q.lo) → Divides (gcd p.step q.step) ((n +ℤ m) -ℤ (p.lo +ℤ q.lo))
+sums_aligned : (p q : Progression) (n m : ℤ) → Divides p.step (n -ℤ p.lo) → Divides q.step (m -ℤ q.lo)
+    → Divides (gcd p.step q.step) ((n +ℤ m) -ℤ (p.lo +ℤ q.lo))
 sums_aligned p q n m h i =
     let g = gcd p.step q.step in
     let x = divides_through g p.step (n -ℤ p.lo) (gcd_first p.step q.step) h in
@@ -51,7 +52,8 @@ sums_is p q r s = is_from_to (p.lo +ℤ q.lo) (p.hi +ℤ q.hi) (gcd p.step q.ste
     (omega (arith, ints, r.order, s.order)) (omega (arith, ints)) (sums_aligned p q p.hi q.hi r.aligned s.aligned)
 
 -- numbers from the high end of the second down
-differences_aligned : (p q : Progression) (n m : ℤ) → IsProgression q → Divides p.step (n -ℤ p.lo) → Divides q.step (m -ℤ q.lo) → Divides (gcd p.step q.step) ((n -ℤ m) -ℤ (p.lo -ℤ q.hi))
+differences_aligned : (p q : Progression) (n m : ℤ) → IsProgression q → Divides p.step (n -ℤ p.lo)
+    → Divides q.step (m -ℤ q.lo) → Divides (gcd p.step q.step) ((n -ℤ m) -ℤ (p.lo -ℤ q.hi))
 differences_aligned p q n m s h i =
     let g = gcd p.step q.step in
     let x = divides_through g p.step (n -ℤ p.lo) (gcd_first p.step q.step) h in
@@ -59,7 +61,8 @@ differences_aligned p q n m s h i =
     let y = divides_through g q.step (q.hi -ℤ m) (gcd_second p.step q.step) j in
     divides_same g ((n -ℤ p.lo) +ℤ (q.hi -ℤ m)) ((n -ℤ m) -ℤ (p.lo -ℤ q.hi)) (omega (arith, ints)) (divides_sum g (n -ℤ p.lo) (q.hi -ℤ m) x y)
 
-pub differences_has : (p q : Progression) (n m : ℤ) → IsProgression q → Has p n → Has q m → Has (differences p q) (n -ℤ m)
+pub differences_has : (p q : Progression) (n m : ℤ) → IsProgression q → Has p n → Has q m
+    → Has (differences p q) (n -ℤ m)
 unfolding differences
 differences_has p q n m s h i = has_from_to (p.lo -ℤ q.hi) (p.hi -ℤ q.lo) (gcd p.step q.step) (n -ℤ m)
     (omega (arith, ints, h.least, i.most)) (omega (arith, ints, h.most, i.least)) (differences_aligned p q n m s h.aligned i.aligned)
@@ -75,7 +78,8 @@ differences_is p q r s = is_from_to (p.lo -ℤ q.hi) (p.hi -ℤ q.lo) (gcd p.ste
 
 -- Products.
 
-product_aligned : (p q : Progression) (n m : ℤ) → Divides p.step (n -ℤ p.lo) → Divides q.step (m -ℤ q.lo) → Divides (product_step p q) ((n *ℤ m) -ℤ (p.lo *ℤ q.lo))
+product_aligned : (p q : Progression) (n m : ℤ) → Divides p.step (n -ℤ p.lo) → Divides q.step (m -ℤ q.lo)
+    → Divides (product_step p q) ((n *ℤ m) -ℤ (p.lo *ℤ q.lo))
 product_aligned p q n m i j =
     let g = product_step p q in
     let first = gcd (p.lo *ℤ q.step) (q.lo *ℤ p.step) in
@@ -107,7 +111,8 @@ product_ends p q r s =
       is_greatest P (int_max (p.lo *ℤ q.lo) (p.lo *ℤ q.hi)) (int_max (p.hi *ℤ q.lo) (p.hi *ℤ q.hi)) (is_greatest P (p.lo *ℤ q.lo) (p.lo *ℤ q.hi) a b) (is_greatest P (p.hi *ℤ q.lo) (p.hi *ℤ q.hi) c d),
     )
 
-pub products_has : (p q : Progression) (n m : ℤ) → IsProgression p → IsProgression q → Has p n → Has q m → Has (products p q) (n *ℤ m)
+pub products_has : (p q : Progression) (n m : ℤ) → IsProgression p → IsProgression q → Has p n → Has q m
+    → Has (products p q) (n *ℤ m)
 unfolding products
 products_has p q n m r s h k =
     let e = product_ends p q r s in
@@ -130,7 +135,8 @@ products_is p q r s =
 
 -- Quotients.
 
-down_aligned : (d : ℕ) (p : Progression) (n : ℤ) → 0 < d → Divides p.step (n -ℤ p.lo) → Divides (quotient_step (pos d) p.step) (int_div_euclid n (pos d) -ℤ int_div_euclid p.lo (pos d))
+down_aligned : (d : ℕ) (p : Progression) (n : ℤ) → 0 < d → Divides p.step (n -ℤ p.lo)
+    → Divides (quotient_step (pos d) p.step) (int_div_euclid n (pos d) -ℤ int_div_euclid p.lo (pos d))
 down_aligned d p n positive m = by_test (int_le (int_rem_euclid p.step (pos d)) (pos 0))
     (λ even. rw even (let s = int_div_euclid p.step (pos d) in
     let step : p.step ≡ s *ℤ pos d = omega (arith, ints, even, quotient_and_rest p.step d positive, rest_range p.step d positive) in
@@ -143,7 +149,8 @@ down_rising d p positive rising = by_test (int_le (int_rem_euclid p.step (pos d)
     (λ even. rw even (omega (arith, ints, quotient_rises (pos 0) p.step d positive rising, zero_quotient d positive)))
     (λ odd. rw odd (omega (arith, ints)))
 
-pub quotients_has : (d : ℕ) (p : Progression) (n : ℤ) → 0 < d → Has p n → Has (quotients (pos d) p) (int_div_euclid n (pos d))
+pub quotients_has : (d : ℕ) (p : Progression) (n : ℤ) → 0 < d → Has p n
+    → Has (quotients (pos d) p) (int_div_euclid n (pos d))
 unfolding quotients
 quotients_has d p n positive h = has_from_to (int_div_euclid p.lo (pos d)) (int_div_euclid p.hi (pos d)) (quotient_step (pos d) p.step) (int_div_euclid n (pos d))
     (quotient_rises p.lo n d positive h.least) (quotient_rises n p.hi d positive h.most) (down_aligned d p n positive h.aligned)

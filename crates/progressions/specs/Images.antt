@@ -1,4 +1,5 @@
--- Images of progressions: the numbers that arithmetic makes of theirs, as the least ends and a step that reach them all.
+-- Images of progressions: the numbers that arithmetic makes of theirs, as the least ends and a step that reach them
+-- all.
 --   moved d p              each number and d
 --   negated p              each number with the other sign
 --   sums p q, differences p q, products p q   of a number of each

@@ -69,7 +69,8 @@ sunk_most greatest n p positive h below =
     let m = apart p.step p.lo (sunk greatest p) n (sunk_aligned greatest p positive) h.aligned in
     omega (arith, ints, not_negative p.step (sunk greatest p -ℤ n) positive m (omega (arith, ints, r.1, below)))
 
-pub from_least_has : (least : ℤ) (p : Progression) (n : ℤ) → IsProgression p → HasSome (from_least least p) n ↔ (Has p n × (least ≤ℤ n))
+pub from_least_has : (least : ℤ) (p : Progression) (n : ℤ) → IsProgression p
+    → HasSome (from_least least p) n ↔ (Has p n × (least ≤ℤ n))
 unfolding from_least
 from_least_has least p n is = by_test (int_le least p.lo)
     (λ all. rw all (λ h. (h, omega (arith, ints, all, h.least)), λ h. h.0))
@@ -100,7 +101,8 @@ from_least_is least p is = by_test (int_le least p.lo)
     rw (some, inside) (is_from_to (risen least p) p.hi p.step (risen_least least p.hi p positive (has_hi p is) (omega (arith, ints, inside))) is.rising
     (apart p.step p.lo p.hi (risen least p) is.aligned (risen_aligned least p positive)))))
 
-pub up_to_has : (greatest : ℤ) (p : Progression) (n : ℤ) → IsProgression p → HasSome (up_to greatest p) n ↔ (Has p n × (n ≤ℤ greatest))
+pub up_to_has : (greatest : ℤ) (p : Progression) (n : ℤ) → IsProgression p
+    → HasSome (up_to greatest p) n ↔ (Has p n × (n ≤ℤ greatest))
 unfolding up_to
 up_to_has greatest p n is = by_test (int_le p.hi greatest)
     (λ all. rw all (λ h. (h, omega (arith, ints, all, h.most)), λ h. h.0))
@@ -130,7 +132,8 @@ up_to_is greatest p is = by_test (int_le p.hi greatest)
     rw (some, inside) (is_from_to p.lo (sunk greatest p) p.step (sunk_most greatest p.lo p positive (has_lo p is) (omega (arith, ints, inside))) is.rising
     (sunk_aligned greatest p positive))))
 
-part_up_to_has : (greatest : ℤ) (o : Option Progression) (n : ℤ) → IfProgression o → HasSome (part_up_to greatest o) n ↔ (HasSome o n × (n ≤ℤ greatest))
+part_up_to_has : (greatest : ℤ) (o : Option Progression) (n : ℤ) → IfProgression o
+    → HasSome (part_up_to greatest o) n ↔ (HasSome o n × (n ≤ℤ greatest))
 part_up_to_has greatest None n is = (λ h. absurd h, λ h. h.0)
 part_up_to_has greatest (Some p) n is = up_to_has greatest p n is
 
@@ -138,7 +141,8 @@ part_up_to_is : (greatest : ℤ) (o : Option Progression) → IfProgression o �
 part_up_to_is greatest None is = tt
 part_up_to_is greatest (Some p) is = up_to_is greatest p is
 
-pub between_has : (least greatest : ℤ) (p : Progression) (n : ℤ) → IsProgression p → HasSome (between least greatest p) n ↔ (Has p n × (least ≤ℤ n) × (n ≤ℤ greatest))
+pub between_has : (least greatest : ℤ) (p : Progression) (n : ℤ) → IsProgression p
+    → HasSome (between least greatest p) n ↔ (Has p n × (least ≤ℤ n) × (n ≤ℤ greatest))
 between_has least greatest p n is =
     let a = from_least_has least p n is in
     let b = part_up_to_has greatest (from_least least p) n (from_least_is least p is) in (
@@ -151,7 +155,8 @@ between_is least greatest p is = part_up_to_is greatest (from_least least p) (fr
 
 -- Without an end.
 
-pub without_first_has : (p : Progression) (n : ℤ) → IsProgression p → HasSome (without_first p) n ↔ (Has p n × (n ≢ p.lo))
+pub without_first_has : (p : Progression) (n : ℤ) → IsProgression p
+    → HasSome (without_first p) n ↔ (Has p n × (n ≢ p.lo))
 unfolding without_first
 without_first_has p n is = by_test (int_lt p.lo p.hi)
     (λ more. let positive = step_positive p is (omega (arith, ints, more)) in
@@ -261,7 +266,8 @@ signed_has w p n positive placed =
 -- The pieces lie in the range.
 
 -- the ends of a part are numbers of it
-within : (least most : ℤ) (o : Option Progression) → IfProgression o → ((n : ℤ) → HasSome o n → (least ≤ℤ n) × (n ≤ℤ most)) → IfPiece least most o
+within : (least most : ℤ) (o : Option Progression) → IfProgression o
+    → ((n : ℤ) → HasSome o n → (least ≤ℤ n) × (n ≤ℤ most)) → IfPiece least most o
 within least most None is inside = tt
 within least most (Some p) is inside = record { progression = is; low = (inside p.lo (has_lo p is)).0; high = (inside p.hi (has_hi p is)).1 }
 
@@ -270,13 +276,16 @@ moved_part_is d None is = tt
 moved_part_is d (Some p) is = moved_is d p is
 
 -- a number of a piece lies in the range
-unsigned_range : (w : ℕ) (p : Progression) (n : ℤ) → 1 ≤ w → IsPlaced w p → SomeHas (unsigned_pieces w p) n → (pos 0 ≤ℤ n) × (n ≤ℤ (full w -ℤ pos 1))
+unsigned_range : (w : ℕ) (p : Progression) (n : ℤ) → 1 ≤ w → IsPlaced w p → SomeHas (unsigned_pieces w p) n
+    → (pos 0 ≤ℤ n) × (n ≤ℤ (full w -ℤ pos 1))
 unsigned_range w p n positive placed some = let t = (unsigned_has w p n positive placed).0 some in (t.0, omega (arith, ints, t.1))
 
-signed_range : (w : ℕ) (p : Progression) (n : ℤ) → 1 ≤ w → IsPlaced w p → SomeHas (signed_pieces w p) n → (neg_ℤ (half w) ≤ℤ n) × (n ≤ℤ (half w -ℤ pos 1))
+signed_range : (w : ℕ) (p : Progression) (n : ℤ) → 1 ≤ w → IsPlaced w p → SomeHas (signed_pieces w p) n
+    → (neg_ℤ (half w) ≤ℤ n) × (n ≤ℤ (half w -ℤ pos 1))
 signed_range w p n positive placed some = let t = (signed_has w p n positive placed).0 some in (t.0, omega (arith, ints, t.1))
 
-pub unsigned_are : (w : ℕ) (p : Progression) → 1 ≤ w → IsPlaced w p → ArePieces (pos 0) (full w -ℤ pos 1) (unsigned_pieces w p)
+pub unsigned_are : (w : ℕ) (p : Progression) → 1 ≤ w → IsPlaced w p
+    → ArePieces (pos 0) (full w -ℤ pos 1) (unsigned_pieces w p)
 unsigned_are w p positive placed =
     let is = placed.progression in
     record {
@@ -285,7 +294,8 @@ unsigned_are w p positive placed =
       third = within (pos 0) (full w -ℤ pos 1) (moved_part (neg_ℤ (full w)) (from_least (full w) p)) (moved_part_is (neg_ℤ (full w)) (from_least (full w) p) (from_least_is (full w) p is)) (λ n h. unsigned_range w p n positive placed (inr (inr h)));
     }
 
-pub signed_are : (w : ℕ) (p : Progression) → 1 ≤ w → IsPlaced w p → ArePieces (neg_ℤ (half w)) (half w -ℤ pos 1) (signed_pieces w p)
+pub signed_are : (w : ℕ) (p : Progression) → 1 ≤ w → IsPlaced w p
+    → ArePieces (neg_ℤ (half w)) (half w -ℤ pos 1) (signed_pieces w p)
 signed_are w p positive placed =
     let is = placed.progression in
     record {

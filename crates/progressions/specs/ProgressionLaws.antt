@@ -34,7 +34,8 @@ pub divides_same_number : (d x y : ℤ) → x ≡ y → Divides d (x -ℤ y)
 divides_same_number d x y e = divides_same d (pos 0) (x -ℤ y) (omega (arith, ints, e)) (divides_zero d)
 
 -- the numbers from lo to hi by a step that divides their distance
-pub is_from_to : (lo hi step : ℤ) → lo ≤ℤ hi → pos 0 ≤ℤ step → Divides step (hi -ℤ lo) → IsProgression (from_to lo hi step)
+pub is_from_to : (lo hi step : ℤ) → lo ≤ℤ hi → pos 0 ≤ℤ step → Divides step (hi -ℤ lo)
+    → IsProgression (from_to lo hi step)
 is_from_to lo hi step order rising aligned = by_test (int_lt lo hi)
     (λ more. rw more (record { order = order; rising = rising; aligned = aligned; lone = λ e. absurd (omega (arith, ints, more)) }))
     (λ one. rw one (record { order = order; rising = omega (arith, ints); aligned = divides_same (pos 0) (pos 0) (hi -ℤ lo) (omega (arith, ints)) (divides_zero (pos 0)); lone = λ e. refl }))
@@ -104,13 +105,15 @@ step_second : (p q : Progression) → Divides (hull_step p q) q.step
 step_second p q = divides_through (hull_step p q) (gcd p.step q.step) q.step (gcd_first (gcd p.step q.step) (p.lo -ℤ q.lo)) (gcd_second p.step q.step)
 
 -- a number that is aligned to one of the low ends is aligned to the least
-from_first : (p q : Progression) (n : ℤ) → Divides (hull_step p q) (n -ℤ p.lo) → Divides (hull_step p q) (n -ℤ int_min p.lo q.lo)
+from_first : (p q : Progression) (n : ℤ) → Divides (hull_step p q) (n -ℤ p.lo)
+    → Divides (hull_step p q) (n -ℤ int_min p.lo q.lo)
 from_first p q n m = by_test (int_lt q.lo p.lo)
     (λ less. rw less (divides_same (hull_step p q) ((n -ℤ p.lo) +ℤ (p.lo -ℤ q.lo)) (n -ℤ q.lo) (omega (arith, ints))
     (divides_sum (hull_step p q) (n -ℤ p.lo) (p.lo -ℤ q.lo) m (gcd_second (gcd p.step q.step) (p.lo -ℤ q.lo)))))
     (λ more. rw more m)
 
-from_second : (p q : Progression) (n : ℤ) → Divides (hull_step p q) (n -ℤ q.lo) → Divides (hull_step p q) (n -ℤ int_min p.lo q.lo)
+from_second : (p q : Progression) (n : ℤ) → Divides (hull_step p q) (n -ℤ q.lo)
+    → Divides (hull_step p q) (n -ℤ int_min p.lo q.lo)
 from_second p q n m = from_first p q n (divides_same (hull_step p q) ((n -ℤ q.lo) -ℤ (p.lo -ℤ q.lo)) (n -ℤ p.lo) (omega (arith, ints))
     (divides_difference (hull_step p q) (n -ℤ q.lo) (p.lo -ℤ q.lo) m (gcd_second (gcd p.step q.step) (p.lo -ℤ q.lo))))
 

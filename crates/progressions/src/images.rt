@@ -3,7 +3,10 @@
 ghost use Rattle.std.specs.Prelude.{◌≡◌, pos, neg_ℤ, ◌+ℤ◌, ◌*ℤ◌, ◌<ℤ◌};
 ghost use Rattle.std.specs.Int.{w128};
 ghost use Rattle.std.specs.Int.RustNames.{FitsSigned};
-ghost use Rattle.progressions.specs.Images.{moved as moved_by, negated as negated_of, sums as sums_of, differences as differences_of, products as products_of, multiples as multiples_of, quotients as quotients_of, quotient_step as quotient_step_of};
+ghost use Rattle.progressions.specs.Images.{moved as moved_by, negated as negated_of, sums as sums_of};
+ghost use Rattle.progressions.specs.Images.{differences as differences_of, products as products_of};
+ghost use Rattle.progressions.specs.Images.{multiples as multiples_of, quotients as quotients_of};
+ghost use Rattle.progressions.specs.Images.{quotient_step as quotient_step_of};
 ghost use Rattle.progressions.specs.Limits.{IsSmall, AreFactors};
 
 use crate::ends::Progression;

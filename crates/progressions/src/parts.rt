@@ -2,7 +2,8 @@
 
 ghost use Rattle.std.specs.Prelude.{◌≡◌};
 ghost use Rattle.progressions.specs.Progressions.{IsProgression};
-ghost use Rattle.progressions.specs.Parts.{from_least as from_least_of, up_to as up_to_of, between as between_of, without_first as without_first_of, without_last as without_last_of};
+ghost use Rattle.progressions.specs.Parts.{from_least as from_least_of, up_to as up_to_of, between as between_of};
+ghost use Rattle.progressions.specs.Parts.{without_first as without_first_of, without_last as without_last_of};
 ghost use Rattle.progressions.specs.Limits.{IsSmall};
 
 use crate::ends::Progression;

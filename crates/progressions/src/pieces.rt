@@ -2,7 +2,8 @@
 
 ghost use Rattle.std.specs.Prelude.{◌≡◌, ◌≤◌, ◌^◌, pos, neg_ℤ, ◌≤ℤ◌};
 ghost use Rattle.progressions.specs.Progressions.{IsPlaced, full};
-ghost use Rattle.progressions.specs.Parts.{moved_part as moved_part_of, unsigned_pieces as unsigned_of, signed_pieces as signed_of};
+ghost use Rattle.progressions.specs.Parts.{moved_part as moved_part_of, unsigned_pieces as unsigned_of};
+ghost use Rattle.progressions.specs.Parts.{signed_pieces as signed_of};
 ghost use Rattle.progressions.specs.Limits.{IfSmall};
 
 use crate::ends::{Pieces, Progression};

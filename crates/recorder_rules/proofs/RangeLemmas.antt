@@ -21,7 +21,8 @@ same_range start n i other =
       ]
     ]
 
-pub range_more : (start n : ℕ) (f : ℕ → ℕ) (old mid : List ℕ) (v : ℕ) → start + n < length mid → AreInRange start n f old mid → v ≡ f (start + n) → AreInRange start (n + 1) f old (set mid (start + n) v)
+pub range_more : (start n : ℕ) (f : ℕ → ℕ) (old mid : List ℕ) (v : ℕ) → start + n < length mid
+    → AreInRange start n f old mid → v ≡ f (start + n) → AreInRange start (n + 1) f old (set mid (start + n) v)
 range_more start n f old mid v low so_far is i =
     elim (cases_eq i (start + n)) [
       | inl here ↦ subst (λ (j : ℕ). get_or (set mid (start + n) v) j 0 ≡ cond (in_range start (n + 1) j) (f j) (get_or old j 0)) (sym here)

@@ -11,5 +11,6 @@ module _ (count w : ℕ) (marks : List ℕ) (f : ℕ → ℕ) (old : List ℕ) (
     here = λ low. next.has (omega arith);
   }
 
-  pub rowwise_all : (new : List ℕ) (place : ℕ) → count ≤ place → IsRowwise count w marks f old new place → AreRows count w marks f old new
+  pub rowwise_all : (new : List ℕ) (place : ℕ) → count ≤ place → IsRowwise count w marks f old new place
+      → AreRows count w marks f old new
   rowwise_all new place over so_far a q low within = so_far.done a q (omega arith) low within

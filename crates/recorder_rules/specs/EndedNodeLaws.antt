@@ -20,7 +20,8 @@ use Rattle.recorder_rules.specs.RangeLaws.{ranged}
 use Rattle.recorder_rules.specs.EndedNodes.{after_each}
 
 -- the bits of words that others were added to
-pub range_bits : (w start : ℕ) (from old new : List ℕ) → AreInRange 0 w (λ i. bit_or (get_or old i 0) (get_or from (start + (i - 0)) 0)) old new
+pub range_bits : (w start : ℕ) (from old new : List ℕ)
+    → AreInRange 0 w (λ i. bit_or (get_or old i 0) (get_or from (start + (i - 0)) 0)) old new
     → (b : ℕ) → b < 64 * w → is_marked new 0 b ≡ (is_marked old 0 b || is_marked from start b)
 range_bits w start from old new changed b low =
     let within : b / 64 < w = omega arith in
@@ -47,7 +48,8 @@ any_same f g [] same = refl
 any_same f g (x ∷ xs) same = ap (λ (b : Bool). b || list_any f xs) (same x (first_member x xs)) ∙ ap (λ (b : Bool). g x || b) (any_same f g xs (λ s there. same s (further_member x xs s there)))
 
 -- one number with a property
-pub any_with : (t : ℕ) (p : ℕ → Bool) (xs : List ℕ) → list_any (λ s. (t == s) && p s) xs ≡ (list_any (λ s. t == s) xs && p t)
+pub any_with : (t : ℕ) (p : ℕ → Bool) (xs : List ℕ)
+    → list_any (λ s. (t == s) && p s) xs ≡ (list_any (λ s. t == s) xs && p t)
 any_with t p [] = refl
 any_with t p (x ∷ xs) =
     by_test (t == x)
@@ -70,7 +72,8 @@ module _ (o : Shape) (ok : IsOutline o) (from to : ℕ) (within : from < length 
       holder_low o ok s from within (held_is o ok s from (first_true (is_held o s from) (not (goes_on_at o s to)) (sym (all s) ∙ member_found scopes s there)))
 
   -- and the nodes of them
-  pub owned_ended : (n count w : ℕ) (owned : List ℕ) → n ≡ length o.scopes → AreOwned o n count w owned → (a : ℕ) → a < count
+  pub owned_ended : (n count w : ℕ) (owned : List ℕ) → n ≡ length o.scopes → AreOwned o n count w owned → (a : ℕ)
+      → a < count
       → list_any (λ s. is_marked owned (s * w) a) scopes ≡ ends o (own_of o a) from to
   owned_ended n count w owned same is a low =
       any_same (λ s. is_marked owned (s * w) a) (λ s. own_of o a == s) scopes

@@ -27,6 +27,7 @@ generated-suc zero f = refl
 generated-suc (suc n) f = ap (λ xs. f 0 ∷ xs) (generated-suc n (λ i. f (suc i)))
 
 -- a list with these elements is this list
-pub generated_is : {A : Type 0} (n : ℕ) (f : ℕ → A) (xs : List A) (d : A) → length xs ≡ n → ((i : ℕ) → i < n → get_or xs i d ≡ f i) → xs ≡ generated n f
+pub generated_is : {A : Type 0} (n : ℕ) (f : ℕ → A) (xs : List A) (d : A) → length xs ≡ n
+    → ((i : ℕ) → i < n → get_or xs i d ≡ f i) → xs ≡ generated n f
 generated_is n f xs d len each =
     ext_get_or d xs (generated n f) (len ∙ sym (length-generated n f)) (λ i low. let low_n : i < n = omega arith in each i low_n ∙ sym (at-generated n f i d low_n))

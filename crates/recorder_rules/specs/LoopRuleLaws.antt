@@ -48,10 +48,12 @@ loop_tallied o ok = record {
 }
 
 -- where a node is counted, its own scope and itself are so
-counted_are : (o : Shape) (n t m : ℕ) → counted_scope o n ≡ Some t → counted_node o n ≡ Some m → (own_of o n ≡ t) × (n ≡ m)
+counted_are : (o : Shape) (n t m : ℕ) → counted_scope o n ≡ Some t → counted_node o n ≡ Some m
+    → (own_of o n ≡ t) × (n ≡ m)
 counted_are o n t m scope node = by_counted (is_counted o n) scope node
   where
-    by_counted : (v : Bool) → cond v (Some (own_of o n)) None ≡ Some t → cond v (Some n) None ≡ Some m → (own_of o n ≡ t) × (n ≡ m)
+    by_counted : (v : Bool) → cond v (Some (own_of o n)) None ≡ Some t → cond v (Some n) None ≡ Some m
+        → (own_of o n ≡ t) × (n ≡ m)
     by_counted true first second = (some_one (own_of o n) t first, some_one n m second)
     by_counted false first second = absurd (let nothing : Option ℕ = None in let bad : nothing ≡ Some t = first in cc)
 

@@ -24,7 +24,8 @@ abbrev with_owned : List (List Bool) → List (List Bool) → PairBook
 with_owned xs ys = record { owned = xs; pairs = ys }
 
 -- a recorder of an outline has a bit for each of its nodes
-pub nodes_of : (n : ℕ) (seen rows : List ℕ) (o : Outlined) (r : Sightings) → sightings n seen rows ≡ r → length r.seen ≡ length o.nodes → n ≡ length o.nodes
+pub nodes_of : (n : ℕ) (seen rows : List ℕ) (o : Outlined) (r : Sightings) → sightings n seen rows ≡ r
+    → length r.seen ≡ length o.nodes → n ≡ length o.nodes
 nodes_of n seen rows o r is same = sym (length-generated n (λ a. is_marked seen 0 a)) ∙ ap (λ (z : Sightings). length z.seen) is ∙ same
 
 module _ (n scopes : ℕ) (owned rows : List ℕ) (o : Outlined) (b : PairBook) (is : pair_book n scopes owned rows ≡ b) (of_o : (b.owned ≡ owned_nodes o) × (length b.pairs ≡ length o.nodes)) where
@@ -57,14 +58,16 @@ module _ (o : Outlined) (n from k : ℕ) (seen rows : List ℕ) where
   pair_is : (a b : ℕ) → a < n → b < n → cell before.pairs a b ≡ is_marked rows (a * words_for n) b
   pair_is a b low within = cell-tabled n n (λ i j. is_marked rows (i * words_for n) j) a b low within
 
-  seen_now : (left new : List ℕ) → AreLeft (shape_of o) n from k seen left → AreEntered n k left new → (a : ℕ) → a < n → is_marked new 0 a ≡ seen_after (shape_of o) before.seen from k a
+  seen_now : (left new : List ℕ) → AreLeft (shape_of o) n from k seen left → AreEntered n k left new → (a : ℕ) → a < n
+      → is_marked new 0 a ≡ seen_after (shape_of o) before.seen from k a
   seen_now left new gone entered a low =
       entered a low ∙ ap (λ (x : Bool). x || (a == k)) (gone a low) ∙ ap (λ (x : Bool). (x && not (ends (shape_of o) (own_of (shape_of o) a) from k)) || (a == k)) (sym (seen_is a low))
 
   over_is : (a : ℕ) → a < n → (is_marked seen 0 a && ends (shape_of o) (own_of (shape_of o) a) from k) ≡ is_over (shape_of o) before.seen from k a
   over_is a low = ap (λ (x : Bool). x && ends (shape_of o) (own_of (shape_of o) a) from k) (sym (seen_is a low))
 
-  pub stepped : (left new left_rows new_rows : List ℕ) (b : PairBook) → n ≡ length o.nodes → AreLeft (shape_of o) n from k seen left → AreEntered n k left new
+  pub stepped : (left new left_rows new_rows : List ℕ) (b : PairBook) → n ≡ length o.nodes
+      → AreLeft (shape_of o) n from k seen left → AreEntered n k left new
       → AreLeftRows (shape_of o) n (words_for n) from k seen rows left_rows → AreEnteredRows (shape_of o) n (words_for n) k new left_rows new_rows
       → sightings n new new_rows ≡ pair_recording.gone o before b from k
   stepped left new left_rows new_rows b same gone entered gone_rows entered_rows =
@@ -89,7 +92,8 @@ module _ (o : Outlined) (n from k : ℕ) (seen rows : List ℕ) where
     abbrev with_rows : List (List Bool) → PairBook
     with_rows xs = record { owned = book_before.owned; pairs = xs }
 
-    pub stepped_book : (new : List ℕ) → n ≡ length o.nodes → AreCollectedRows (shape_of o) n (words_for n) from k seen rows collected new
+    pub stepped_book : (new : List ℕ) → n ≡ length o.nodes
+        → AreCollectedRows (shape_of o) n (words_for n) from k seen rows collected new
         → pair_book n scopes owned new ≡ pair_recording.gone_book o before book_before from k
     stepped_book new same gone =
         subst (λ (m : ℕ). pair_book n scopes owned new ≡ with_rows (tabled m m (λ a c. book_after (shape_of o) before book_before from k a c))) same
@@ -100,7 +104,8 @@ module _ (o : Outlined) (n from k : ℕ) (seen rows : List ℕ) where
         ∙ ap (λ (x : Bool). is_marked collected (a * words_for n) c || (x && is_over (shape_of o) before.seen from k a)) (sym (pair_is a c low within))
         ∙ ap (λ (x : Bool). x || (cell before.pairs a c && is_over (shape_of o) before.seen from k a)) (sym (collected_is a c low within)))))
 
-    pub finished_book : (new : List ℕ) → n ≡ length o.nodes → n ≤ 64 * words_for n → AreRows n (words_for n) seen (λ i. bit_or (get_or collected i 0) (get_or rows i 0)) collected new
+    pub finished_book : (new : List ℕ) → n ≡ length o.nodes → n ≤ 64 * words_for n
+        → AreRows n (words_for n) seen (λ i. bit_or (get_or collected i 0) (get_or rows i 0)) collected new
         → pair_book n scopes owned new ≡ pair_recording.finished o before book_before from
     finished_book new same fit added =
         subst (λ (m : ℕ). pair_book n scopes owned new ≡ with_rows (tabled m m (λ a c. book_ended before book_before a c))) same
@@ -133,14 +138,17 @@ joined n seen rows other_seen other_rows new new_rows either either_rows =
 
 -- ---- the beginning
 
-pub begun : (o : Outlined) (n : ℕ) (seen rows : List ℕ) → n ≡ length o.nodes → ((a : ℕ) → a < n → is_marked seen 0 a ≡ (a == 0)) → ((a c : ℕ) → a < n → c < n → is_marked rows (a * words_for n) c ≡ ((a == 0) && (c == 0)))
+pub begun : (o : Outlined) (n : ℕ) (seen rows : List ℕ) → n ≡ length o.nodes
+    → ((a : ℕ) → a < n → is_marked seen 0 a ≡ (a == 0))
+    → ((a c : ℕ) → a < n → c < n → is_marked rows (a * words_for n) c ≡ ((a == 0) && (c == 0)))
     → sightings n seen rows ≡ pair_recording.first o
 begun o n seen rows same first first_rows =
     subst (λ (m : ℕ). sightings n seen rows ≡ with_pairs (generated m (λ a. a == 0)) (tabled m m (λ a c. (a == 0) && (c == 0)))) same
     (ap (λ (xs : List Bool). with_pairs xs (tabled n n (λ a c. is_marked rows (a * words_for n) c))) (generated_same n (λ a. is_marked seen 0 a) (λ a. a == 0) first)
     ∙ ap (λ (xs : List (List Bool)). with_pairs (generated n (λ a. a == 0)) xs) (tabled_same n n (λ a c. is_marked rows (a * words_for n) c) (λ a c. (a == 0) && (c == 0)) first_rows))
 
-pub begun_book : (o : Outlined) (n scopes : ℕ) (owned rows : List ℕ) → n ≡ length o.nodes → scopes ≡ length o.scopes → AreOwned (shape_of o) (length o.scopes) (length o.nodes) (words_for (length o.nodes)) owned
+pub begun_book : (o : Outlined) (n scopes : ℕ) (owned rows : List ℕ) → n ≡ length o.nodes → scopes ≡ length o.scopes
+    → AreOwned (shape_of o) (length o.scopes) (length o.nodes) (words_for (length o.nodes)) owned
     → ((a c : ℕ) → a < n → c < n → is_marked rows (a * words_for n) c ≡ false) → pair_book n scopes owned rows ≡ pair_recording.first_book o
 begun_book o n scopes owned rows same same_scopes holds none =
     ap (λ (xs : List (List Bool)). with_owned xs (tabled n n (λ a c. is_marked rows (a * words_for n) c)))

@@ -31,14 +31,16 @@ member_had a (n ∷ e) is =
     ]
 
 -- a pair of one of the iterations is among those of all
-any_member : (a c : ℕ) (es : List (List ℕ)) (e : List ℕ) → Contains es e → follows a c e ≡ true → any_follows a c es ≡ true
+any_member : (a c : ℕ) (es : List (List ℕ)) (e : List ℕ) → Contains es e → follows a c e ≡ true
+    → any_follows a c es ≡ true
 any_member a c [] e there is = no_member e there
 any_member a c (x ∷ es) e there is =
     first_or_further x es e there
     (λ same. or_right (any_follows a c es) (follows a c x) (ap (λ (xs : List ℕ). follows a c xs) same ∙ is))
     (λ older. or_left (any_follows a c es) (follows a c x) (any_member a c es e older is))
 
-member_any : (a c : ℕ) (es : List (List ℕ)) → any_follows a c es ≡ true → (e : List ℕ) × Contains es e × (follows a c e ≡ true)
+member_any : (a c : ℕ) (es : List (List ℕ)) → any_follows a c es ≡ true
+    → (e : List ℕ) × Contains es e × (follows a c e ≡ true)
 member_any a c [] is = absurd (let bad : false ≡ true = is in cc)
 member_any a c (x ∷ es) is =
     elim (or_cases (any_follows a c es) (follows a c x) is) [
@@ -56,7 +58,8 @@ pub record Meeting (o : Shape) (past : List ℕ) (a c : ℕ) : Type 0 where
 
 module _ (o : Outlined) (ok : IsOutline (shape_of o)) (b : PairBook) (past : List ℕ) where
   -- two nodes that meet in an iteration are a pair of the book
-  pub pair_found : (a c : ℕ) → pair_recording.sums_up o b past → a < length o.nodes → c < length o.nodes → Meeting (shape_of o) past a c → together b a c ≡ true
+  pub pair_found : (a c : ℕ) → pair_recording.sums_up o b past → a < length o.nodes → c < length o.nodes
+      → Meeting (shape_of o) past a c → together b a c ≡ true
   pair_found a c summed low within met =
       let turned : reverse (reverse met.iteration) ≡ met.iteration = reverse-reverse met.iteration in
       let found = iteration_found (shape_of o) ok (own_of (shape_of o) a) past (reverse met.iteration)
@@ -74,11 +77,13 @@ module _ (o : Outlined) (ok : IsOutline (shape_of o)) (b : PairBook) (past : Lis
       ]
 
   -- where the book does not have them, no iteration has both
-  pub never_together : (a c : ℕ) → pair_recording.sums_up o b past → a < length o.nodes → c < length o.nodes → together b a c ≡ false → Meeting (shape_of o) past a c → ⊥
+  pub never_together : (a c : ℕ) → pair_recording.sums_up o b past → a < length o.nodes → c < length o.nodes
+      → together b a c ≡ false → Meeting (shape_of o) past a c → ⊥
   never_together a c summed low within clear met = let bad : true ≡ false = sym (pair_found a c summed low within met) ∙ clear in cc
 
   -- one way of a pair
-  met_by : (a c : ℕ) → AreExactPairs (shape_of o) (length o.nodes) b past → a < length o.nodes → c < length o.nodes → cell b.pairs a c ≡ true → Meeting (shape_of o) past a c
+  met_by : (a c : ℕ) → AreExactPairs (shape_of o) (length o.nodes) b past → a < length o.nodes → c < length o.nodes
+      → cell b.pairs a c ≡ true → Meeting (shape_of o) past a c
   met_by a c exact low within there =
       let both = and_parts (is_shared (shape_of o) a c) (any_follows a c (whole (shape_of o) a past)) (sym (exact a c low within) ∙ there) in
       let found = member_any a c (whole (shape_of o) a past) both.1 in
@@ -91,7 +96,8 @@ module _ (o : Outlined) (ok : IsOutline (shape_of o)) (b : PairBook) (past : Lis
       }
 
   -- of one run alone the nodes of a pair meet in an iteration
-  pub pair_is_of : (a c : ℕ) → pair_recording.exact o b past → a < length o.nodes → c < length o.nodes → together b a c ≡ true → Meeting (shape_of o) past a c
+  pub pair_is_of : (a c : ℕ) → pair_recording.exact o b past → a < length o.nodes → c < length o.nodes
+      → together b a c ≡ true → Meeting (shape_of o) past a c
   pair_is_of a c exact low within there =
       elim (or_cases (cell b.pairs a c) (cell b.pairs c a) there) [
         | inl one ↦ met_by a c exact low within one

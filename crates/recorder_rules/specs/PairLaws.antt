@@ -68,19 +68,22 @@ with_one : (f h : Bool) → (f ≡ true → h ≡ true) → (f && h) ≡ f
 with_one true h more = more refl
 with_one false h more = refl
 
--- what a recorder and a book have after a step, where before it they had exactly what they should: sh says whether the nodes
--- share their scope, p, s and b are what is there, f, h and g what should be, and z says whether the iteration ends
+-- what a recorder and a book have after a step, where before it they had exactly what they should: sh says whether the
+-- nodes share their scope, p, s and b are what is there, f, h and g what should be, and z says whether the iteration
+-- ends
 paired : (sh p s z entered sc f h hc : Bool) → p ≡ (sh && f) → s ≡ h → (f ≡ true → h ≡ true) → (sh ≡ true → sc ≡ hc)
     → ((p && not (s && z)) || (entered && (sh && sc))) ≡ (sh && ((f && not z) || (entered && hc)))
 paired true p s z entered sc f h hc pairs seen more second = rw (pairs, seen, second refl) (ap (λ (x : Bool). x || (entered && hc)) (with_not f h z more))
 paired false p s z true sc f h hc pairs seen more second = rw pairs refl
 paired false p s z false sc f h hc pairs seen more second = rw pairs refl
 
-booked : (sh p s b z f h g : Bool) → p ≡ (sh && f) → s ≡ h → (f ≡ true → h ≡ true) → b ≡ (sh && g) → (b || (p && (s && z))) ≡ (sh && (g || (f && z)))
+booked : (sh p s b z f h g : Bool) → p ≡ (sh && f) → s ≡ h → (f ≡ true → h ≡ true) → b ≡ (sh && g)
+    → (b || (p && (s && z))) ≡ (sh && (g || (f && z)))
 booked true p s b z f h g pairs seen more there = rw (pairs, seen, there) (ap (λ (x : Bool). g || x) (with_both f h z more))
 booked false p s b z f h g pairs seen more there = rw (pairs, there) refl
 
-ended : (sh p s b f h g : Bool) → p ≡ (sh && f) → s ≡ h → (f ≡ true → h ≡ true) → b ≡ (sh && g) → (b || (p && s)) ≡ (sh && (g || f))
+ended : (sh p s b f h g : Bool) → p ≡ (sh && f) → s ≡ h → (f ≡ true → h ≡ true) → b ≡ (sh && g)
+    → (b || (p && s)) ≡ (sh && (g || f))
 ended true p s b f h g pairs seen more there = rw (pairs, seen, there) (ap (λ (x : Bool). g || x) (with_one f h more))
 ended false p s b f h g pairs seen more there = rw (pairs, there) refl
 
@@ -95,11 +98,13 @@ further_some n [] some = absurd (some refl)
 further_some n (m ∷ part) some = λ none. let bad : n ∷ m ∷ part ≡ [] = none in cc
 
 module _ (o : Shape) (ok : IsOutline o) (t : ℕ) where
-  begun_some : (n : ℕ) (past : List ℕ) → is_held o t n ≡ true → is_header o t n ≡ true → open_iteration o t (n ∷ past) ≢ []
+  begun_some : (n : ℕ) (past : List ℕ) → is_held o t n ≡ true → is_header o t n ≡ true
+      → open_iteration o t (n ∷ past) ≢ []
   begun_some n past held is none = let bad : n ∷ [] ≡ [] = sym (rw (held, is) refl) ∙ none in cc
 
   -- the scope that holds the newest node of a trace has an open iteration
-  pub open_some : (n : ℕ) (past : List ℕ) → IsTrace o (n ∷ past) → is_held o t n ≡ true → open_iteration o t (n ∷ past) ≢ []
+  pub open_some : (n : ℕ) (past : List ℕ) → IsTrace o (n ∷ past) → is_held o t n ≡ true
+      → open_iteration o t (n ∷ past) ≢ []
   open_some n [] first held =
       let alone : t ≡ 0 = ok.first_alone t (held_is o ok t 0 (subst (λ (k : ℕ). is_held o t k ≡ true) first held)) in
       let header : header_of o.scopes t ≡ n = ap (λ (s : ℕ). header_of o.scopes s) alone ∙ ok.first_scope.0 ∙ sym first in
@@ -165,7 +170,8 @@ module _ (o : Shape) (ok : IsOutline o) (n k : ℕ) (past : List ℕ) (tr : IsTr
     gone_book = record { owned = b.owned; pairs = gone_over }
 
     -- covered before the step, and after it
-    seen_more : (a : ℕ) → (has a (current o a (n ∷ past)) ≡ true → truth r.seen a ≡ true) → has a (current o a (k ∷ n ∷ past)) ≡ true → seen_after o r.seen n k a ≡ true
+    seen_more : (a : ℕ) → (has a (current o a (n ∷ past)) ≡ true → truth r.seen a ≡ true)
+        → has a (current o a (k ∷ n ∷ past)) ≡ true → seen_after o r.seen n k a ≡ true
     seen_more a more is =
         let stays = not (ends o (own_of o a) n k) in
         or_more (has a (current o a (n ∷ past)) && stays) (a == k) (truth r.seen a && stays) (a == k)
@@ -197,7 +203,8 @@ module _ (o : Shape) (ok : IsOutline o) (n k : ℕ) (past : List ℕ) (tr : IsTr
           (sym (over_now a c) ∙ is);
     }
 
-    seen_exactly : AreSharpPairs o m r b (n ∷ past) → (a : ℕ) → a < m → seen_after o r.seen n k a ≡ has a (current o a (k ∷ n ∷ past))
+    seen_exactly : AreSharpPairs o m r b (n ∷ past) → (a : ℕ) → a < m
+        → seen_after o r.seen n k a ≡ has a (current o a (k ∷ n ∷ past))
     seen_exactly sharp a low = ap (λ (x : Bool). (x && not (ends o (own_of o a) n k)) || (a == k)) (sharp.seen a low) ∙ sym (seen_now a)
 
     pub sharp_after : AreSharpPairs o m r b (n ∷ past) → AreSharpPairs o m gone gone_book (k ∷ n ∷ past)

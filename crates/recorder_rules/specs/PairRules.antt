@@ -95,18 +95,22 @@ over o a past = closed_iterations o (own_of o a) past
 abbrev pub whole : Shape → ℕ → List ℕ → List (List ℕ)
 whole o a past = iterations o (own_of o a) past
 
--- the recorder has seen the nodes of the current iterations, and has their pairs, and the book those of the iterations that are over
+-- the recorder has seen the nodes of the current iterations, and has their pairs, and the book those of the iterations
+-- that are over
 pub record ArePaired (o : Shape) (n : ℕ) (r : Sightings) (b : PairBook) (past : List ℕ) : Type 0 where
   pub recorder_is_of : length r.seen ≡ n
   pub book_is_of : length b.pairs ≡ n
   pub seen : (a : ℕ) → a < n → has a (current o a past) ≡ true → truth r.seen a ≡ true
-  pub pairs : (a c : ℕ) → a < n → c < n → is_shared o a c ≡ true → follows a c (current o a past) ≡ true → cell r.pairs a c ≡ true
-  pub over : (a c : ℕ) → a < n → c < n → is_shared o a c ≡ true → any_follows a c (over o a past) ≡ true → cell b.pairs a c ≡ true
+  pub pairs : (a c : ℕ) → a < n → c < n → is_shared o a c ≡ true → follows a c (current o a past) ≡ true
+      → cell r.pairs a c ≡ true
+  pub over : (a c : ℕ) → a < n → c < n → is_shared o a c ≡ true → any_follows a c (over o a past) ≡ true
+      → cell b.pairs a c ≡ true
 
 -- the book has the pairs of all iterations
 pub record AreCollected (o : Shape) (n : ℕ) (b : PairBook) (past : List ℕ) : Type 0 where
   pub book_is_of : length b.pairs ≡ n
-  pub pairs : (a c : ℕ) → a < n → c < n → is_shared o a c ≡ true → any_follows a c (whole o a past) ≡ true → cell b.pairs a c ≡ true
+  pub pairs : (a c : ℕ) → a < n → c < n → is_shared o a c ≡ true → any_follows a c (whole o a past) ≡ true
+      → cell b.pairs a c ≡ true
 
 -- they have nothing else
 pub record AreSharpPairs (o : Shape) (n : ℕ) (r : Sightings) (b : PairBook) (past : List ℕ) : Type 0 where

@@ -69,7 +69,8 @@ has_more : (a k : ℕ) (e : List ℕ) → e ≢ [] → has a (further k e) ≡ (
 has_more a k [] some = absurd (some refl)
 has_more a k (n ∷ e) some = refl
 
-follows_more : (a c k : ℕ) (e : List ℕ) → e ≢ [] → follows a c (further k e) ≡ (follows a c e || ((a == k) && has c (further k e)))
+follows_more : (a c k : ℕ) (e : List ℕ) → e ≢ []
+    → follows a c (further k e) ≡ (follows a c e || ((a == k) && has c (further k e)))
 follows_more a c k [] some = absurd (some refl)
 follows_more a c k (n ∷ e) some = refl
 
@@ -81,7 +82,8 @@ or_turned false false = refl
 
 module _ (k : ℕ) (e : List ℕ) where
   -- what is seen: the iteration goes on, or ends
-  pub seen_step : (hk head hn : Bool) (a : ℕ) → (hk ≡ false → (a == k) ≡ false) → (hn ≡ false → e ≡ []) → (hk ≡ true → head ≡ false → e ≢ [])
+  pub seen_step : (hk head hn : Bool) (a : ℕ) → (hk ≡ false → (a == k) ≡ false) → (hn ≡ false → e ≡ [])
+      → (hk ≡ true → head ≡ false → e ≢ [])
       → has a (next_iteration hk head k e) ≡ ((has a e && not (hn && not (hk && not head))) || (a == k))
   seen_step true true true a out none some = or_turned (a == k) false ∙ ap (λ (x : Bool). x || (a == k)) (and_false (has a e))
   seen_step true true false a out none some = rw (has_none a e (none refl)) (or_turned (a == k) false)
@@ -91,7 +93,8 @@ module _ (k : ℕ) (e : List ℕ) where
   seen_step false head false a out none some = rw (out refl, has_none a e (none refl)) refl
 
   -- what is paired
-  pub pair_step : (hk head hn : Bool) (a c : ℕ) → (hk ≡ false → (a == k) ≡ false) → (hn ≡ false → e ≡ []) → (hk ≡ true → head ≡ false → e ≢ [])
+  pub pair_step : (hk head hn : Bool) (a c : ℕ) → (hk ≡ false → (a == k) ≡ false) → (hn ≡ false → e ≡ [])
+      → (hk ≡ true → head ≡ false → e ≢ [])
       → follows a c (next_iteration hk head k e) ≡ ((follows a c e && not (hn && not (hk && not head))) || ((a == k) && has c (next_iteration hk head k e)))
   pair_step true true true a c out none some = ap (λ (x : Bool). x || ((a == k) && has c (k ∷ []))) (and_false (follows a c e))
   pair_step true true false a c out none some = rw (follows_none a c e (none refl)) refl
@@ -101,7 +104,8 @@ module _ (k : ℕ) (e : List ℕ) where
   pair_step false head false a c out none some = rw (out refl, follows_none a c e (none refl)) refl
 
 -- an iteration more is over
-pub all_over : (a c : ℕ) (e : List ℕ) (es : List (List ℕ)) → any_follows a c (with_closed e es) ≡ (any_follows a c es || follows a c e)
+pub all_over : (a c : ℕ) (e : List ℕ) (es : List (List ℕ))
+    → any_follows a c (with_closed e es) ≡ (any_follows a c es || follows a c e)
 all_over a c [] es = or_false (any_follows a c es)
 all_over a c (n ∷ e) es = refl
 

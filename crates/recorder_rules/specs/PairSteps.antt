@@ -1,4 +1,5 @@
--- What a step does to the pairs of one scope's iteration: tests of the node that is entered, and of the iteration before.
+-- What a step does to the pairs of one scope's iteration: tests of the node that is entered, and of the iteration
+-- before.
 --   next_iteration      the iteration after the step
 use Rattle.std.proofs.Common.{ℕ, List, [], ◌∷◌, Bool, not, ◌&&◌, if◌then◌else◌}
 use Rattle.domain_core.specs.Parts.{further}

@@ -16,7 +16,8 @@ pub row_low : (a w q count : ℕ) → a < count → q < w → a * w + q < count 
 row_low a w q count low within = let e = row_end a w count low in omega arith
 
 module _ (count w : ℕ) (marks : List ℕ) (f : ℕ → ℕ) (old : List ℕ) (all : count ≤ 64 * length marks) where
-  pub rowwise_next : (mid new : List ℕ) (place n : ℕ) (g : ℕ → ℕ) → place < count → IsNextMark marks (place + 1) n → AreInRange (place * w) w g mid new
+  pub rowwise_next : (mid new : List ℕ) (place n : ℕ) (g : ℕ → ℕ) → place < count → IsNextMark marks (place + 1) n
+      → AreInRange (place * w) w g mid new
       → ((q : ℕ) → q < w → g (place * w + q) ≡ f (place * w + q)) → IsRowwise count w marks f old mid place → IsRowwise count w marks f old new n
   rowwise_next mid new place n g low next changed same so_far = record {
     done = λ a q below within inside. elim (cases_eq a place) [
@@ -34,7 +35,8 @@ module _ (count w : ℕ) (marks : List ℕ) (f : ℕ → ℕ) (old : List ℕ) (
       step : (a q : ℕ) → q < w → get_or new (a * w + q) 0 ≡ cond (a == place) (g (a * w + q)) (get_or mid (a * w + q) 0)
       step a q inside = changed (a * w + q) ∙ ap (λ (b : Bool). cond b (g (a * w + q)) (get_or mid (a * w + q) 0)) (row_range w place a q inside)
 
-      before : (a q : ℕ) → a ≢ place → a < n → a < count → q < w → get_or mid (a * w + q) 0 ≡ cond (is_marked marks 0 a) (f (a * w + q)) (get_or old (a * w + q) 0)
+      before : (a q : ℕ) → a ≢ place → a < n → a < count → q < w
+          → get_or mid (a * w + q) 0 ≡ cond (is_marked marks 0 a) (f (a * w + q)) (get_or old (a * w + q) 0)
       before a q other below within inside =
           elim (cases_lt a place) [
             | inl earlier ↦ so_far.done a q earlier within inside

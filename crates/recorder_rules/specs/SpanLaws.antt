@@ -45,7 +45,8 @@ collected_wider None s = tt
 collected_wider (Some t) s = (omega arith, omega arith)
 
 -- to collect more in a wider one gives a wider one
-pub collected_each : (t u : Option (ℕ × ℕ)) (a b : ℕ × ℕ) → IsWider t u → IsInside a b → IsWider (collected t a) (collected u b)
+pub collected_each : (t u : Option (ℕ × ℕ)) (a b : ℕ × ℕ) → IsWider t u → IsInside a b
+    → IsWider (collected t a) (collected u b)
 collected_each None None a b wider inside = inside
 collected_each None (Some u) a b wider inside = let p = inside.0 in let q = inside.1 in (omega arith, omega arith)
 collected_each (Some t) None a b wider inside = elim wider [ ]
@@ -59,7 +60,8 @@ collected_twice (Some t) s = let low : min (min t.0 s.0) s.0 ≡ min t.0 s.0 = o
 -- ---- spreads
 
 -- each count lies in what is wider than their spread
-pub spread_has : (counts : List ℕ) (t : Option (ℕ × ℕ)) (c : ℕ) → IsWider (spread_of counts) t → Contains counts c → (s : ℕ × ℕ) × (t ≡ Some s) × IsWithin c s
+pub spread_has : (counts : List ℕ) (t : Option (ℕ × ℕ)) (c : ℕ) → IsWider (spread_of counts) t → Contains counts c
+    → (s : ℕ × ℕ) × (t ≡ Some s) × IsWithin c s
 spread_has [] t c wider there = no_member c there
 spread_has (x ∷ counts) t c wider there =
     first_or_further x counts c there
@@ -75,7 +77,8 @@ spread_has (x ∷ counts) t c wider there =
     spread_first (Some s) wide same = let p = wide.0 in let q = wide.1 in (s, refl, (omega arith, omega arith))
 
 -- what is spread is there: the least and the greatest are counts
-pub spread_attained : (counts : List ℕ) (s : ℕ × ℕ) → spread_of counts ≡ Some s → Contains counts s.0 × Contains counts s.1
+pub spread_attained : (counts : List ℕ) (s : ℕ × ℕ) → spread_of counts ≡ Some s
+    → Contains counts s.0 × Contains counts s.1
 spread_attained [] s is = absurd (let bad : None ≡ Some s = is in cc)
 spread_attained (c ∷ counts) s is = by_rest (λ t rest. spread_attained counts t rest) (spread_of counts) refl
   where
@@ -90,7 +93,8 @@ spread_attained (c ∷ counts) s is = by_rest (λ t rest. spread_attained counts
     most a there (inl le) = subst (λ (n : ℕ). Contains (c ∷ counts) n) (let e : c ≡ max a c = omega arith in e) here
     most a there (inr more) = subst (λ (n : ℕ). Contains (c ∷ counts) n) (let e : a ≡ max a c = omega arith in e) (further_member c counts a there)
 
-    by_rest : ((t : ℕ × ℕ) → spread_of counts ≡ Some t → Contains counts t.0 × Contains counts t.1) → (t : Option (ℕ × ℕ)) → spread_of counts ≡ t → Contains (c ∷ counts) s.0 × Contains (c ∷ counts) s.1
+    by_rest : ((t : ℕ × ℕ) → spread_of counts ≡ Some t → Contains counts t.0 × Contains counts t.1)
+        → (t : Option (ℕ × ℕ)) → spread_of counts ≡ t → Contains (c ∷ counts) s.0 × Contains (c ∷ counts) s.1
     by_rest further None rest =
         let same : (c, c) ≡ s = (let both : Some (c, c) ≡ Some s = sym (ap (λ u. collected u (c, c)) rest) ∙ is in cc) in
         (subst (λ (n : ℕ). Contains (c ∷ counts) n) (ap (λ (p : ℕ × ℕ). p.0) same) here, subst (λ (n : ℕ). Contains (c ∷ counts) n) (ap (λ (p : ℕ × ℕ). p.1) same) here)
@@ -136,13 +140,16 @@ right_inside a b same = record {
 }
 
 -- no number is greater than the greatest
-pub below_greatest : (spans : List (ℕ × ℕ)) (i : ℕ) → i < length spans → ((get_or spans i (0, 0)).0 ≤ greatest spans) × ((get_or spans i (0, 0)).1 ≤ greatest spans)
+pub below_greatest : (spans : List (ℕ × ℕ)) (i : ℕ) → i < length spans
+    → ((get_or spans i (0, 0)).0 ≤ greatest spans) × ((get_or spans i (0, 0)).1 ≤ greatest spans)
 below_greatest [] i low = absurd (omega arith)
 below_greatest (s ∷ spans) zero low = (omega arith, omega arith)
 below_greatest (s ∷ spans) (suc i) low = let rest = below_greatest spans i (omega arith) in let p = rest.0 in let q = rest.1 in (omega arith, omega arith)
 
 -- and the greatest is not greater than what is above all
-pub greatest_least : (spans : List (ℕ × ℕ)) (n : ℕ) → ((i : ℕ) → i < length spans → ((get_or spans i (0, 0)).0 ≤ n) × ((get_or spans i (0, 0)).1 ≤ n)) → greatest spans ≤ n
+pub greatest_least : (spans : List (ℕ × ℕ)) (n : ℕ)
+    → ((i : ℕ) → i < length spans → ((get_or spans i (0, 0)).0 ≤ n) × ((get_or spans i (0, 0)).1 ≤ n))
+    → greatest spans ≤ n
 greatest_least [] n each = omega arith
 greatest_least (s ∷ spans) n each =
     let here = each 0 (omega arith) in

@@ -57,7 +57,8 @@ not_kept false y = refl
 -- ---- words
 
 -- bits that are kept where others are set
-pub kept_bits : (w start : ℕ) (from old new : List ℕ) → AreInRange 0 w (λ i. bit_and (get_or old i 0) (get_or from (start + i) 0)) old new
+pub kept_bits : (w start : ℕ) (from old new : List ℕ)
+    → AreInRange 0 w (λ i. bit_and (get_or old i 0) (get_or from (start + i) 0)) old new
     → (b : ℕ) → b < 64 * w → is_marked new 0 b ≡ (is_marked old 0 b && is_marked from start b)
 kept_bits w start from old new changed b low =
     ap (λ (n : ℕ). is_set n (b % 64))
@@ -66,7 +67,8 @@ kept_bits w start from old new changed b low =
     ∙ ap (λ (i : ℕ). is_marked old 0 b && is_set (get_or from i 0) (b % 64)) (let e : start + (0 + b / 64) ≡ start + b / 64 = omega arith in e)
 
 -- marks that are cleared
-pub cleared_bits : (w : ℕ) (marks old new : List ℕ) → ((i : ℕ) → i < w → get_or marks i 0 < 2 ^ 64) → AreInRange 0 w (λ i. bit_and (get_or old i 0) (bit_not w64 (get_or marks i 0))) old new
+pub cleared_bits : (w : ℕ) (marks old new : List ℕ) → ((i : ℕ) → i < w → get_or marks i 0 < 2 ^ 64)
+    → AreInRange 0 w (λ i. bit_and (get_or old i 0) (bit_not w64 (get_or marks i 0))) old new
     → (b : ℕ) → b < 64 * w → is_marked new 0 b ≡ (is_marked old 0 b && not (is_marked marks 0 b))
 cleared_bits w marks old new small changed b low =
     ap (λ (n : ℕ). is_set n (b % 64))
@@ -104,7 +106,8 @@ marked_set words base b low other n =
         ]
 
 -- where words are in rows
-same_place : (w t s n b : ℕ) → n < 64 * w → b < 64 * w → ((t * w + n / 64 == s * w + b / 64) && (n % 64 == b % 64)) ≡ ((t == s) && (n == b))
+same_place : (w t s n b : ℕ) → n < 64 * w → b < 64 * w
+    → ((t * w + n / 64 == s * w + b / 64) && (n % 64 == b % 64)) ≡ ((t == s) && (n == b))
 same_place w t s n b low within =
     by_test (t * w + n / 64 == s * w + b / 64)
     (λ is. let place = same_from_place t (n / 64) s (b / 64) w (omega arith) (omega arith) (eqb-true (t * w + n / 64) (s * w + b / 64) is) in
@@ -175,24 +178,30 @@ module _ (o : Shape) (n w from to : ℕ) (fit : n ≤ 64 * w) (seen ended over :
   over_turned : (a : ℕ) → a < n → is_marked over 0 a ≡ (is_marked seen 0 a && ends o (own_of o a) from to)
   over_turned a low = over_bits a low ∙ and_turned (ends o (own_of o a) from to) (is_marked seen 0 a)
 
-  pub left_seen : (new : List ℕ) → ((i : ℕ) → i < w → get_or over i 0 < 2 ^ 64) → AreInRange 0 w (λ i. bit_and (get_or seen i 0) (bit_not w64 (get_or over i 0))) seen new → AreLeft o n from to seen new
+  pub left_seen : (new : List ℕ) → ((i : ℕ) → i < w → get_or over i 0 < 2 ^ 64)
+      → AreInRange 0 w (λ i. bit_and (get_or seen i 0) (bit_not w64 (get_or over i 0))) seen new
+      → AreLeft o n from to seen new
   left_seen new small changed a low =
       cleared_bits w over seen new small changed a (omega arith) ∙ ap (λ (x : Bool). is_marked seen 0 a && not x) (over_bits a low) ∙ not_kept (is_marked seen 0 a) (ends o (own_of o a) from to)
 
   pub left_rows : (rows new : List ℕ) → AreRows n w over (λ i. 0) rows new → AreLeftRows o n w from to seen rows new
   left_rows rows new changed a b low within = cleared_rows n w over fit rows new changed a b low within ∙ ap (λ (x : Bool). is_marked rows (a * w) b && not x) (over_turned a low)
 
-  pub collected_rows : (rows book new : List ℕ) → AreRows n w over (λ i. bit_or (get_or book i 0) (get_or rows i 0)) book new → AreCollectedRows o n w from to seen rows book new
+  pub collected_rows : (rows book new : List ℕ)
+      → AreRows n w over (λ i. bit_or (get_or book i 0) (get_or rows i 0)) book new
+      → AreCollectedRows o n w from to seen rows book new
   collected_rows rows book new changed a b low within =
       added_rows n w over fit rows book new changed a b low within ∙ ap (λ (x : Bool). is_marked book (a * w) b || (is_marked rows (a * w) b && x)) (over_turned a low)
 
 -- ---- the node that is entered
 
 module _ (o : Shape) (n scopes w k : ℕ) (fit : n ≤ 64 * w) (node : k < n) where
-  pub entered_seen : (seen : List ℕ) → length seen ≡ w → AreEntered n k seen (set seen (0 + k / 64) (bit_or (get_or seen (0 + k / 64) 0) (1 * 2 ^ (k % 64) % 2 ^ 64)))
+  pub entered_seen : (seen : List ℕ) → length seen ≡ w
+      → AreEntered n k seen (set seen (0 + k / 64) (bit_or (get_or seen (0 + k / 64) 0) (1 * 2 ^ (k % 64) % 2 ^ 64)))
   entered_seen seen len a low = first_set seen w k (omega arith) (omega arith) a (omega arith)
 
-  pub entered_rows : (own : ℕ) (seen owned met old new : List ℕ) → own ≡ own_of o k → own < scopes → AreOwned o scopes n w owned
+  pub entered_rows : (own : ℕ) (seen owned met old new : List ℕ) → own ≡ own_of o k → own < scopes
+      → AreOwned o scopes n w owned
       → AreInRange 0 w (λ i. bit_and (get_or seen i 0) (get_or owned (own * w + i) 0)) seen met
       → AreInRange (k * w) w (λ i. bit_or (get_or old i 0) (get_or met (0 + (i - k * w)) 0)) old new → AreEnteredRows o n w k seen old new
   entered_rows own seen owned met old new is within holds kept changed a b low below =
@@ -218,7 +227,8 @@ module _ (o : Shape) (n scopes w k : ℕ) (fit : n ≤ 64 * w) (node : k < n) wh
 
 -- ---- the nodes of each scope, one node after the other
 
-pub more_owned : (o : Shape) (node own t a : ℕ) → own ≡ own_of o node → (owned_before o node t a || ((t == own) && (a == node))) ≡ owned_before o (node + 1) t a
+pub more_owned : (o : Shape) (node own t a : ℕ) → own ≡ own_of o node
+    → (owned_before o node t a || ((t == own) && (a == node))) ≡ owned_before o (node + 1) t a
 more_owned o node own t a is =
     elim (cases_order a node) [
       | inl same ↦ ap (λ (x : Bool). ((own_of o a == t) && x) || ((t == own) && (a == node))) (le-ltb a node (omega arith)) ∙ ap (λ (x : Bool). x || ((t == own) && (a == node))) (and_nothing (own_of o a == t))
@@ -240,7 +250,9 @@ more_owned o node own t a is =
 -- ---- words that are made
 
 -- the bits that are set in either of two lists of words
-pub both_bits : (a b new : List ℕ) → length a ≡ length b → AreInRange 0 (length a) (λ i. bit_or (get_or a i 0) (get_or b (0 + (i - 0)) 0)) a new → (base n : ℕ) → is_marked new base n ≡ (is_marked a base n || is_marked b base n)
+pub both_bits : (a b new : List ℕ) → length a ≡ length b
+    → AreInRange 0 (length a) (λ i. bit_or (get_or a i 0) (get_or b (0 + (i - 0)) 0)) a new → (base n : ℕ)
+    → is_marked new base n ≡ (is_marked a base n || is_marked b base n)
 both_bits a b new same changed base n =
     elim (cases_lt (base + n / 64) (length a)) [
       | inl low ↦ ap (λ (v : ℕ). is_set v (n % 64))

@@ -23,5 +23,6 @@ unfolding generated
 generated_same zero f g same = refl
 generated_same (suc n) f g same = ap (λ x. x ∷ generated n (λ i. f (suc i))) (same 0 (omega arith)) ∙ ap (λ xs. g 0 ∷ xs) (generated_same n (λ i. f (suc i)) (λ i. g (suc i)) (λ a low. same (suc a) (omega arith)))
 
-pub tabled_same : (m n : ℕ) (f g : ℕ → ℕ → Bool) → ((a b : ℕ) → a < m → b < n → f a b ≡ g a b) → tabled m n f ≡ tabled m n g
+pub tabled_same : (m n : ℕ) (f g : ℕ → ℕ → Bool) → ((a b : ℕ) → a < m → b < n → f a b ≡ g a b)
+    → tabled m n f ≡ tabled m n g
 tabled_same m n f g same = generated_same m (λ a. generated n (λ b. f a b)) (λ a. generated n (λ b. g a b)) (λ a low. generated_same n (λ b. f a b) (λ b. g a b) (λ b within. same a b low within))

@@ -22,7 +22,8 @@ use Rattle.recorder_rules.specs.TallyRules.{Tally, Ledger, key_at, is_at, leaves
 -- ---- one number, by what holds the nodes
 
 -- the step to k: the execution goes on where the scope holds k (hk), and hn says whether it holds the node before
-step_within : (hk hn entered : Bool) (k m : ℕ) (e : List ℕ) (s : ℕ × ℕ) → (m == k) ≡ entered → (hk ≡ false → entered ≡ false) → (hn ≡ false → e ≡ []) → IsWithin (visits m e) s
+step_within : (hk hn entered : Bool) (k m : ℕ) (e : List ℕ) (s : ℕ × ℕ) → (m == k) ≡ entered
+    → (hk ≡ false → entered ≡ false) → (hn ≡ false → e ≡ []) → IsWithin (visits m e) s
     → IsWithin (visits m (cond hk (k ∷ e) [])) (span_after (hn && not hk) entered s)
 step_within true true true k m e s is held none within = rw is (let p = within.0 in let q = within.1 in (omega arith, omega arith))
 step_within true true false k m e s is held none within = rw is within
@@ -32,7 +33,8 @@ step_within false hn true k m e s is held none within = absurd (let bad : true �
 step_within false true false k m e s is held none within = (omega arith, omega arith)
 step_within false false false k m e s is held none within = subst (λ (xs : List ℕ). IsWithin (visits m xs) s) (none refl) within
 
-step_sharp : (hk hn entered : Bool) (k m : ℕ) (e : List ℕ) (s : ℕ × ℕ) → (m == k) ≡ entered → (hk ≡ false → entered ≡ false) → (hn ≡ false → e ≡ []) → s ≡ (visits m e, visits m e)
+step_sharp : (hk hn entered : Bool) (k m : ℕ) (e : List ℕ) (s : ℕ × ℕ) → (m == k) ≡ entered
+    → (hk ≡ false → entered ≡ false) → (hn ≡ false → e ≡ []) → s ≡ (visits m e, visits m e)
     → span_after (hn && not hk) entered s ≡ (visits m (cond hk (k ∷ e) []), visits m (cond hk (k ∷ e) []))
 step_sharp true true true k m e s is held none same = rw (is, same) refl
 step_sharp true true false k m e s is held none same = rw (is, same) refl
@@ -43,31 +45,36 @@ step_sharp false true false k m e s is held none same = refl
 step_sharp false false false k m e s is held none same = same ∙ ap (λ (xs : List ℕ). (visits m xs, visits m xs)) (none refl)
 
 -- counts of executions, where one more is over
-counts_closed : (m : ℕ) (e : List ℕ) (es : List (List ℕ)) → e ≢ [] → map (λ x. visits m x) (with_closed e es) ≡ visits m e ∷ map (λ x. visits m x) es
+counts_closed : (m : ℕ) (e : List ℕ) (es : List (List ℕ)) → e ≢ []
+    → map (λ x. visits m x) (with_closed e es) ≡ visits m e ∷ map (λ x. visits m x) es
 counts_closed m [] es some = absurd (some refl)
 counts_closed m (n ∷ e) es some = refl
 
 -- an execution that is over is collected
-end_wider : (hn : Bool) (m : ℕ) (e : List ℕ) (es : List (List ℕ)) (s : ℕ × ℕ) (t : Option (ℕ × ℕ)) → (hn ≡ false → e ≡ []) → (hn ≡ true → e ≢ []) → IsWithin (visits m e) s
+end_wider : (hn : Bool) (m : ℕ) (e : List ℕ) (es : List (List ℕ)) (s : ℕ × ℕ) (t : Option (ℕ × ℕ))
+    → (hn ≡ false → e ≡ []) → (hn ≡ true → e ≢ []) → IsWithin (visits m e) s
     → IsWider (spread_of (map (λ x. visits m x) es)) t → IsWider (spread_of (map (λ x. visits m x) (with_closed e es))) (spread_after hn t s)
 end_wider true m e es s t none some within wider =
     subst (λ (xs : List ℕ). IsWider (spread_of xs) (collected t s)) (sym (counts_closed m e es (some refl)))
     (collected_each (spread_of (map (λ x. visits m x) es)) t (visits m e, visits m e) s wider within)
 end_wider false m e es s t none some within wider = subst (λ (xs : List ℕ). IsWider (spread_of (map (λ x. visits m x) (with_closed xs es))) t) (sym (none refl)) wider
 
-end_exact : (hn : Bool) (m : ℕ) (e : List ℕ) (es : List (List ℕ)) (s : ℕ × ℕ) (t : Option (ℕ × ℕ)) → (hn ≡ false → e ≡ []) → (hn ≡ true → e ≢ []) → s ≡ (visits m e, visits m e)
+end_exact : (hn : Bool) (m : ℕ) (e : List ℕ) (es : List (List ℕ)) (s : ℕ × ℕ) (t : Option (ℕ × ℕ))
+    → (hn ≡ false → e ≡ []) → (hn ≡ true → e ≢ []) → s ≡ (visits m e, visits m e)
     → t ≡ spread_of (map (λ x. visits m x) es) → spread_after hn t s ≡ spread_of (map (λ x. visits m x) (with_closed e es))
 end_exact true m e es s t none some same is = rw (counts_closed m e es (some refl), is, same) refl
 end_exact false m e es s t none some same is = is ∙ ap (λ (xs : List ℕ). spread_of (map (λ x. visits m x) (with_closed xs es))) (sym (none refl))
 
-step_wider : (hk hn : Bool) (m : ℕ) (e : List ℕ) (es : List (List ℕ)) (s : ℕ × ℕ) (t : Option (ℕ × ℕ)) → (hn ≡ false → e ≡ []) → (hn ≡ true → e ≢ []) → IsWithin (visits m e) s
+step_wider : (hk hn : Bool) (m : ℕ) (e : List ℕ) (es : List (List ℕ)) (s : ℕ × ℕ) (t : Option (ℕ × ℕ))
+    → (hn ≡ false → e ≡ []) → (hn ≡ true → e ≢ []) → IsWithin (visits m e) s
     → IsWider (spread_of (map (λ x. visits m x) es)) t → IsWider (spread_of (map (λ x. visits m x) (cond hk es (with_closed e es)))) (spread_after (hn && not hk) t s)
 step_wider true true m e es s t none some within wider = wider
 step_wider true false m e es s t none some within wider = wider
 step_wider false true m e es s t none some within wider = end_wider true m e es s t none some within wider
 step_wider false false m e es s t none some within wider = end_wider false m e es s t none some within wider
 
-step_exact : (hk hn : Bool) (m : ℕ) (e : List ℕ) (es : List (List ℕ)) (s : ℕ × ℕ) (t : Option (ℕ × ℕ)) → (hn ≡ false → e ≡ []) → (hn ≡ true → e ≢ []) → s ≡ (visits m e, visits m e)
+step_exact : (hk hn : Bool) (m : ℕ) (e : List ℕ) (es : List (List ℕ)) (s : ℕ × ℕ) (t : Option (ℕ × ℕ))
+    → (hn ≡ false → e ≡ []) → (hn ≡ true → e ≢ []) → s ≡ (visits m e, visits m e)
     → t ≡ spread_of (map (λ x. visits m x) es) → spread_after (hn && not hk) t s ≡ spread_of (map (λ x. visits m x) (cond hk es (with_closed e es)))
 step_exact true true m e es s t none some same is = is
 step_exact true false m e es s t none some same is = is
@@ -114,25 +121,29 @@ module _ (o : Shape) (w : Tally) (is : IsTally o w) (i t m : ℕ) (scope : key_a
       rw (left_by n k, entered_by k)
       (step_sharp (is_held o t k) (is_held o t n) (m == k) k m (open_execution o t (n ∷ past)) s refl (not_entered o t m k held) (open_none o t n past) same)
 
-  gone_wider : (n k : ℕ) (past : List ℕ) (s : ℕ × ℕ) (u : Option (ℕ × ℕ)) → IsWithin (open_count o t m (n ∷ past)) s → IsWider (spread_of (closed_counts o t m (n ∷ past))) u
+  gone_wider : (n k : ℕ) (past : List ℕ) (s : ℕ × ℕ) (u : Option (ℕ × ℕ)) → IsWithin (open_count o t m (n ∷ past)) s
+      → IsWider (spread_of (closed_counts o t m (n ∷ past))) u
       → IsWider (spread_of (closed_counts o t m (k ∷ n ∷ past))) (spread_after (leaves o (key_at w.scopes i) n k) u s)
   gone_wider n k past s u within wider =
       rw (left_by n k)
       (step_wider (is_held o t k) (is_held o t n) m (open_execution o t (n ∷ past)) (closed_executions o t (n ∷ past)) s u (open_none o t n past) (open_some o t n past) within wider)
 
-  gone_exact : (n k : ℕ) (past : List ℕ) (s : ℕ × ℕ) (u : Option (ℕ × ℕ)) → s ≡ (open_count o t m (n ∷ past), open_count o t m (n ∷ past)) → u ≡ spread_of (closed_counts o t m (n ∷ past))
+  gone_exact : (n k : ℕ) (past : List ℕ) (s : ℕ × ℕ) (u : Option (ℕ × ℕ))
+      → s ≡ (open_count o t m (n ∷ past), open_count o t m (n ∷ past)) → u ≡ spread_of (closed_counts o t m (n ∷ past))
       → spread_after (leaves o (key_at w.scopes i) n k) u s ≡ spread_of (closed_counts o t m (k ∷ n ∷ past))
   gone_exact n k past s u same is_spread =
       rw (left_by n k)
       (step_exact (is_held o t k) (is_held o t n) m (open_execution o t (n ∷ past)) (closed_executions o t (n ∷ past)) s u (open_none o t n past) (open_some o t n past) same is_spread)
 
-  ended_wider : (n : ℕ) (past : List ℕ) (s : ℕ × ℕ) (u : Option (ℕ × ℕ)) → IsWithin (open_count o t m (n ∷ past)) s → IsWider (spread_of (closed_counts o t m (n ∷ past))) u
+  ended_wider : (n : ℕ) (past : List ℕ) (s : ℕ × ℕ) (u : Option (ℕ × ℕ)) → IsWithin (open_count o t m (n ∷ past)) s
+      → IsWider (spread_of (closed_counts o t m (n ∷ past))) u
       → IsWider (spread_of (all_counts o t m (n ∷ past))) (spread_after (is_within o (key_at w.scopes i) n) u s)
   ended_wider n past s u within wider =
       rw (within_by n)
       (end_wider (is_held o t n) m (open_execution o t (n ∷ past)) (closed_executions o t (n ∷ past)) s u (open_none o t n past) (open_some o t n past) within wider)
 
-  ended_exact : (n : ℕ) (past : List ℕ) (s : ℕ × ℕ) (u : Option (ℕ × ℕ)) → s ≡ (open_count o t m (n ∷ past), open_count o t m (n ∷ past)) → u ≡ spread_of (closed_counts o t m (n ∷ past))
+  ended_exact : (n : ℕ) (past : List ℕ) (s : ℕ × ℕ) (u : Option (ℕ × ℕ))
+      → s ≡ (open_count o t m (n ∷ past), open_count o t m (n ∷ past)) → u ≡ spread_of (closed_counts o t m (n ∷ past))
       → spread_after (is_within o (key_at w.scopes i) n) u s ≡ spread_of (all_counts o t m (n ∷ past))
   ended_exact n past s u same is_spread =
       rw (within_by n)
@@ -148,7 +159,8 @@ module _ (o : Shape) (w : Tally) (is : IsTally o w) (i t m : ℕ) (scope : key_a
 -- ---- all numbers
 
 -- a span after a step is at most one more
-after_more : (left entered : Bool) (s : ℕ × ℕ) (g : ℕ) → s.0 ≤ g → s.1 ≤ g → ((span_after left entered s).0 ≤ g + 1) × ((span_after left entered s).1 ≤ g + 1)
+after_more : (left entered : Bool) (s : ℕ × ℕ) (g : ℕ) → s.0 ≤ g → s.1 ≤ g
+    → ((span_after left entered s).0 ≤ g + 1) × ((span_after left entered s).1 ≤ g + 1)
 after_more true true s g low high = (omega arith, omega arith)
 after_more true false s g low high = (omega arith, omega arith)
 after_more false true s g low high = (omega arith, omega arith)
@@ -159,7 +171,8 @@ after_wider true t s = collected_wider t s
 after_wider false t s = wider_itself t
 
 -- a list of spreads after each went on has at least what it had
-generated_wider : (b : List (Option (ℕ × ℕ))) (left : ℕ → Bool) (s : ℕ → ℕ × ℕ) → AllWider b (generated (length b) (λ i. spread_after (left i) (spread_at b i) (s i)))
+generated_wider : (b : List (Option (ℕ × ℕ))) (left : ℕ → Bool) (s : ℕ → ℕ × ℕ)
+    → AllWider b (generated (length b) (λ i. spread_after (left i) (spread_at b i) (s i)))
 generated_wider b left s i =
     elim (low_or_over i (length b)) [
       | inl low ↦
@@ -170,19 +183,23 @@ generated_wider b left s i =
     ]
 
 -- where nothing is counted, nothing is left and nothing ends
-nothing_left : (o : Shape) (key : Option ℕ) (n k : ℕ) (t : Option (ℕ × ℕ)) (s : ℕ × ℕ) → key ≡ None → t ≡ None → spread_after (leaves o key n k) t s ≡ None
+nothing_left : (o : Shape) (key : Option ℕ) (n k : ℕ) (t : Option (ℕ × ℕ)) (s : ℕ × ℕ) → key ≡ None → t ≡ None
+    → spread_after (leaves o key n k) t s ≡ None
 nothing_left o key n k t s none empty = rw (none, empty) refl
 
-nothing_ends : (o : Shape) (key : Option ℕ) (n : ℕ) (t : Option (ℕ × ℕ)) (s : ℕ × ℕ) → key ≡ None → t ≡ None → spread_after (is_within o key n) t s ≡ None
+nothing_ends : (o : Shape) (key : Option ℕ) (n : ℕ) (t : Option (ℕ × ℕ)) (s : ℕ × ℕ) → key ≡ None → t ≡ None
+    → spread_after (is_within o key n) t s ≡ None
 nothing_ends o key n t s none empty = rw (none, empty) refl
 
 -- no span of the beginning is above 1
-first_most : (entered : Bool) → ((cond {A = ℕ × ℕ} entered (1, 1) (0, 0)).0 ≤ 1) × ((cond {A = ℕ × ℕ} entered (1, 1) (0, 0)).1 ≤ 1)
+first_most : (entered : Bool)
+    → ((cond {A = ℕ × ℕ} entered (1, 1) (0, 0)).0 ≤ 1) × ((cond {A = ℕ × ℕ} entered (1, 1) (0, 0)).1 ≤ 1)
 first_most true = (omega arith, omega arith)
 first_most false = (omega arith, omega arith)
 
 module _ (w : Outlined → Tally) (tallied : (o : Outlined) → IsOutline (shape_of o) → IsTally (shape_of o) (w o)) where
-  first_at : (o : Outlined) (i : ℕ) → i < length (w o).scopes → span_at ((tally_recording w).first o) i ≡ cond (is_at (key_at (w o).nodes i) 0) (1, 1) (0, 0)
+  first_at : (o : Outlined) (i : ℕ) → i < length (w o).scopes
+      → span_at ((tally_recording w).first o) i ≡ cond (is_at (key_at (w o).nodes i) 0) (1, 1) (0, 0)
   first_at o i low = at-generated (length (w o).scopes) (λ j. cond (is_at (key_at (w o).nodes j) 0) (1, 1) (0, 0)) i (0, 0) low
 
   gone_at : (o : Shape) (v : Tally) (r : List (ℕ × ℕ)) (n k i : ℕ) → i < length r
@@ -203,12 +220,14 @@ module _ (w : Outlined → Tally) (tallied : (o : Outlined) → IsOutline (shape
   sharp_within : (c : ℕ) (s : ℕ × ℕ) → s ≡ (c, c) → IsWithin c s
   sharp_within c s same = subst (λ (u : ℕ × ℕ). IsWithin c u) (sym same) (omega arith, omega arith)
 
-  begun : (o : Outlined) (i t m : ℕ) → IsOutline (shape_of o) → i < length (w o).scopes → key_at (w o).scopes i ≡ Some t → key_at (w o).nodes i ≡ Some m
+  begun : (o : Outlined) (i t m : ℕ) → IsOutline (shape_of o) → i < length (w o).scopes → key_at (w o).scopes i ≡ Some t
+      → key_at (w o).nodes i ≡ Some m
       → span_at ((tally_recording w).first o) i ≡ (open_count (shape_of o) t m (0 ∷ []), open_count (shape_of o) t m (0 ∷ []))
   begun o i t m ok low scope node = first_at o i low ∙ first_sharp (shape_of o) (w o) (tallied o ok) i t m scope node
 
   -- the greatest number after a step
-  gone_greatest : (o : Shape) (v : Tally) (r : List (ℕ × ℕ)) (n k : ℕ) → greatest (spans_gone o v r n k) ≤ greatest r + 1
+  gone_greatest : (o : Shape) (v : Tally) (r : List (ℕ × ℕ)) (n k : ℕ)
+      → greatest (spans_gone o v r n k) ≤ greatest r + 1
   gone_greatest o v r n k = greatest_least (spans_gone o v r n k) (greatest r + 1) (λ i within.
       let low : i < length r = (let e = length-generated (length r) (λ j. span_after (leaves o (key_at v.scopes j) n k) (is_at (key_at v.nodes j) k) (span_at r j)) in omega arith) in
       let below = below_greatest r i low in
@@ -228,10 +247,12 @@ module _ (w : Outlined → Tally) (tallied : (o : Outlined) → IsOutline (shape
   spans_length : (o : Shape) (v : Tally) (r : List (ℕ × ℕ)) (n k : ℕ) → length (spans_gone o v r n k) ≡ length r
   spans_length o v r n k = length-generated (length r) (λ j. span_after (leaves o (key_at v.scopes j) n k) (is_at (key_at v.nodes j) k) (span_at r j))
 
-  book_length : (o : Shape) (v : Tally) (r : List (ℕ × ℕ)) (b : List (Option (ℕ × ℕ))) (n k : ℕ) → length (spreads_gone o v r b n k) ≡ length b
+  book_length : (o : Shape) (v : Tally) (r : List (ℕ × ℕ)) (b : List (Option (ℕ × ℕ))) (n k : ℕ)
+      → length (spreads_gone o v r b n k) ≡ length b
   book_length o v r b n k = length-generated (length b) (λ j. spread_after (leaves o (key_at v.scopes j) n k) (spread_at b j) (span_at r j))
 
-  ended_length : (o : Shape) (v : Tally) (r : List (ℕ × ℕ)) (b : List (Option (ℕ × ℕ))) (n : ℕ) → length (spreads_ended o v r b n) ≡ length b
+  ended_length : (o : Shape) (v : Tally) (r : List (ℕ × ℕ)) (b : List (Option (ℕ × ℕ))) (n : ℕ)
+      → length (spreads_ended o v r b n) ≡ length b
   ended_length o v r b n = length-generated (length b) (λ j. spread_after (is_within o (key_at v.scopes j) n) (spread_at b j) (span_at r j))
 
   -- what a step leaves, with the tally of the book or that of the outline
@@ -247,7 +268,8 @@ module _ (w : Outlined → Tally) (tallied : (o : Outlined) → IsOutline (shape
         subst (λ (u : Option (ℕ × ℕ)). IsWider (spread_of (closed_counts (shape_of o) t m (k ∷ n ∷ past))) u) (sym (book_at (shape_of o) (w o) r b n k i (omega arith))) wider,
       ))
 
-  finished_by : (o : Outlined) (v : Tally) (r : List (ℕ × ℕ)) (b : List (Option (ℕ × ℕ))) (n : ℕ) (past : List ℕ) → IsOutline (shape_of o) → v ≡ w o → length b ≡ length (w o).scopes
+  finished_by : (o : Outlined) (v : Tally) (r : List (ℕ × ℕ)) (b : List (Option (ℕ × ℕ))) (n : ℕ) (past : List ℕ)
+      → IsOutline (shape_of o) → v ≡ w o → length b ≡ length (w o).scopes
       → IsTallied (shape_of o) (w o) r b (n ∷ past) → IsSummed (shape_of o) (w o) (spreads_ended (shape_of o) v r b n) (n ∷ past)
   finished_by o v r b n past ok same len_b covered =
       subst (λ (u : Tally). IsSummed (shape_of o) (w o) (spreads_ended (shape_of o) u r b n) (n ∷ past)) (sym same) (λ i t m low scope node.
@@ -272,7 +294,8 @@ module _ (w : Outlined → Tally) (tallied : (o : Outlined) → IsOutline (shape
             (sharp.elsewhere i low none);
       })
 
-  exact_by : (o : Outlined) (v : Tally) (r : List (ℕ × ℕ)) (b : List (Option (ℕ × ℕ))) (n : ℕ) (past : List ℕ) → IsOutline (shape_of o) → v ≡ w o → length b ≡ length (w o).scopes
+  exact_by : (o : Outlined) (v : Tally) (r : List (ℕ × ℕ)) (b : List (Option (ℕ × ℕ))) (n : ℕ) (past : List ℕ)
+      → IsOutline (shape_of o) → v ≡ w o → length b ≡ length (w o).scopes
       → IsSharpTally (shape_of o) (w o) r b (n ∷ past) → IsExactTally (shape_of o) (w o) (spreads_ended (shape_of o) v r b n) (n ∷ past)
   exact_by o v r b n past ok same len_b sharp =
       subst (λ (u : Tally). IsExactTally (shape_of o) (w o) (spreads_ended (shape_of o) u r b n) (n ∷ past)) (sym same) (record {

@@ -91,13 +91,17 @@ abbrev pub IsElsewhereEmpty : Tally → List (Option (ℕ × ℕ)) → Type 0
 IsElsewhereEmpty w b = (i : ℕ) → i < length w.scopes → key_at w.scopes i ≡ None → spread_at b i ≡ None
 
 -- they have nothing else
-pub record IsSharpTally (o : Shape) (w : Tally) (r : List (ℕ × ℕ)) (b : List (Option (ℕ × ℕ))) (past : List ℕ) : Type 0 where
-  pub spans : (i t m : ℕ) → i < length w.scopes → key_at w.scopes i ≡ Some t → key_at w.nodes i ≡ Some m → span_at r i ≡ (open_count o t m past, open_count o t m past)
-  pub spreads : (i t m : ℕ) → i < length w.scopes → key_at w.scopes i ≡ Some t → key_at w.nodes i ≡ Some m → spread_at b i ≡ spread_of (closed_counts o t m past)
+pub record IsSharpTally (o : Shape) (w : Tally) (r : List (ℕ × ℕ)) (b : List (Option (ℕ × ℕ)))
+    (past : List ℕ) : Type 0 where
+  pub spans : (i t m : ℕ) → i < length w.scopes → key_at w.scopes i ≡ Some t → key_at w.nodes i ≡ Some m
+      → span_at r i ≡ (open_count o t m past, open_count o t m past)
+  pub spreads : (i t m : ℕ) → i < length w.scopes → key_at w.scopes i ≡ Some t → key_at w.nodes i ≡ Some m
+      → spread_at b i ≡ spread_of (closed_counts o t m past)
   pub elsewhere : IsElsewhereEmpty w b
 
 pub record IsExactTally (o : Shape) (w : Tally) (b : List (Option (ℕ × ℕ))) (past : List ℕ) : Type 0 where
-  pub spreads : (i t m : ℕ) → i < length w.scopes → key_at w.scopes i ≡ Some t → key_at w.nodes i ≡ Some m → spread_at b i ≡ spread_of (all_counts o t m past)
+  pub spreads : (i t m : ℕ) → i < length w.scopes → key_at w.scopes i ≡ Some t → key_at w.nodes i ≡ Some m
+      → spread_at b i ≡ spread_of (all_counts o t m past)
   pub elsewhere : IsElsewhereEmpty w b
 
 -- the spans once the step from n to k is made, and what the book then has

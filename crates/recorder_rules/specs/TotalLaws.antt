@@ -19,23 +19,28 @@ span_is_order = record {
   right = right_inside;
 }
 
-pub greatest_spans_of : (a b : List (ℕ × ℕ)) → length a ≡ length b → greatest (spans_of a b) ≤ max (greatest a) (greatest b)
+pub greatest_spans_of : (a b : List (ℕ × ℕ)) → length a ≡ length b
+    → greatest (spans_of a b) ≤ max (greatest a) (greatest b)
 greatest_spans_of a b same = greatest_least (spans_of a b) (max (greatest a) (greatest b)) (λ i low. each i (let e = length-generated (length a) (λ j. span_of (get_or a j (0, 0)) (get_or b j (0, 0))) in omega arith))
   where
-    each : (i : ℕ) → i < length a → ((get_or (spans_of a b) i (0, 0)).0 ≤ max (greatest a) (greatest b)) × ((get_or (spans_of a b) i (0, 0)).1 ≤ max (greatest a) (greatest b))
+    each : (i : ℕ) → i < length a
+        → ((get_or (spans_of a b) i (0, 0)).0 ≤ max (greatest a) (greatest b))
+        × ((get_or (spans_of a b) i (0, 0)).1 ≤ max (greatest a) (greatest b))
     each i low =
         subst (λ (s : ℕ × ℕ). (s.0 ≤ max (greatest a) (greatest b)) × (s.1 ≤ max (greatest a) (greatest b))) (sym (at-generated (length a) (λ j. span_of (get_or a j (0, 0)) (get_or b j (0, 0))) i (0, 0) low))
         (let p = below_greatest a i low in let q = below_greatest b i (omega arith) in let p0 = p.0 in let p1 = p.1 in let q0 = q.0 in let q1 = q.1 in (omega arith, omega arith))
 
 -- what is written at one place
-set_within : (r : List (ℕ × ℕ)) (k n : ℕ) (s : ℕ × ℕ) (P : ℕ × ℕ → Type 0) → k < length r → (n ≡ k → P s) → (n ≢ k → P (span_at r n)) → P (span_at (set r k s) n)
+set_within : (r : List (ℕ × ℕ)) (k n : ℕ) (s : ℕ × ℕ) (P : ℕ × ℕ → Type 0) → k < length r → (n ≡ k → P s)
+    → (n ≢ k → P (span_at r n)) → P (span_at (set r k s) n)
 set_within r k n s P low here there =
     elim (same_or_not n k) [
       | inl same ↦ subst P (sym (ap (λ (i : ℕ). get_or (set r k s) i (0, 0)) same ∙ get_or-set_same r k s (0, 0) low)) (here same)
       | inr other ↦ subst P (sym (get_or-set_other r k n s (0, 0) other)) (there other)
     ]
 
-pub greatest_one_more : (r : List (ℕ × ℕ)) (k : ℕ) → k < length r → greatest (set r k (one_more (span_at r k))) ≤ greatest r + 1
+pub greatest_one_more : (r : List (ℕ × ℕ)) (k : ℕ) → k < length r
+    → greatest (set r k (one_more (span_at r k))) ≤ greatest r + 1
 greatest_one_more r k low = greatest_least (set r k (one_more (span_at r k))) (greatest r + 1) (λ i within.
     set_within r k i (one_more (span_at r k)) (λ s. (s.0 ≤ greatest r + 1) × (s.1 ≤ greatest r + 1)) low
     (λ same. let p = below_greatest r k low in let p0 = p.0 in let p1 = p.1 in (omega arith, omega arith))
@@ -51,7 +56,8 @@ pub node_low : (o : Outlined) (k : ℕ) → k < length (shape_of o).own → k < 
 node_low o k low = let e : length (map (λ (row : NodeRow). row.scope) o.nodes) ≡ length o.nodes = length-map o.nodes (λ (row : NodeRow). row.scope) in omega arith
 
 -- one visit more
-visited : (r : List (ℕ × ℕ)) (k n : ℕ) (past : List ℕ) → k < length r → IsWithin (visits n past) (span_at r n) → IsWithin (visits n (k ∷ past)) (span_at (set r k (one_more (span_at r k))) n)
+visited : (r : List (ℕ × ℕ)) (k n : ℕ) (past : List ℕ) → k < length r → IsWithin (visits n past) (span_at r n)
+    → IsWithin (visits n (k ∷ past)) (span_at (set r k (one_more (span_at r k))) n)
 visited r k n past low within =
     set_within r k n (one_more (span_at r k)) (λ s. IsWithin (visits n (k ∷ past)) s) low
     (λ same. subst (λ (m : ℕ). IsWithin (visits m (k ∷ past)) (one_more (span_at r k))) (sym same) (
@@ -60,20 +66,24 @@ visited r k n past low within =
     let p = w.0 in let q = w.1 in (omega arith, omega arith)))
     (λ other. let e = visits-other n k past other in let p = within.0 in let q = within.1 in (omega arith, omega arith))
 
-visited_sharp : (r : List (ℕ × ℕ)) (k n : ℕ) (past : List ℕ) → k < length r → ((m : ℕ) → m < length r → span_at r m ≡ (visits m past, visits m past)) → n < length r → span_at (set r k (one_more (span_at r k))) n ≡ (visits n (k ∷ past), visits n (k ∷ past))
+visited_sharp : (r : List (ℕ × ℕ)) (k n : ℕ) (past : List ℕ) → k < length r
+    → ((m : ℕ) → m < length r → span_at r m ≡ (visits m past, visits m past)) → n < length r
+    → span_at (set r k (one_more (span_at r k))) n ≡ (visits n (k ∷ past), visits n (k ∷ past))
 visited_sharp r k n past low each within =
     set_within r k n (one_more (span_at r k)) (λ s. s ≡ (visits n (k ∷ past), visits n (k ∷ past))) low
     (λ same. ap (λ (s : ℕ × ℕ). one_more s) (each k low) ∙ ap (λ (c : ℕ). (c, c)) (sym (visits-here k past)) ∙ ap (λ (m : ℕ). (visits m (k ∷ past), visits m (k ∷ past))) (sym same))
     (λ other. each n within ∙ ap (λ (c : ℕ). (c, c)) (sym (visits-other n k past other)))
 
 -- the start
-start_at : (m n : ℕ) → 0 < m → n < m → span_at (set (replicate m (0, 0)) 0 (1, 1)) n ≡ (visits n (0 ∷ []), visits n (0 ∷ []))
+start_at : (m n : ℕ) → 0 < m → n < m
+    → span_at (set (replicate m (0, 0)) 0 (1, 1)) n ≡ (visits n (0 ∷ []), visits n (0 ∷ []))
 start_at m n some low =
     set_within (replicate m (0, 0)) 0 n (1, 1) (λ s. s ≡ (visits n (0 ∷ []), visits n (0 ∷ []))) (let e : length (replicate {A = ℕ × ℕ} m (0, 0)) ≡ m = length-replicate m (0, 0) in omega arith)
     (λ same. ap (λ (c : ℕ). (c, c)) (sym (visits-here 0 [])) ∙ ap (λ (k : ℕ). (visits k (0 ∷ []), visits k (0 ∷ []))) (sym same))
     (λ other. get_or-replicate m n (0, 0) (0, 0) low ∙ ap (λ (c : ℕ). (c, c)) (sym (visits-other n 0 [] other)))
 
-at_collected : (b : List (Option (ℕ × ℕ))) (r : List (ℕ × ℕ)) (n : ℕ) → n < length b → spread_at (all_collected b r) n ≡ collected (spread_at b n) (span_at r n)
+at_collected : (b : List (Option (ℕ × ℕ))) (r : List (ℕ × ℕ)) (n : ℕ) → n < length b
+    → spread_at (all_collected b r) n ≡ collected (spread_at b n) (span_at r n)
 at_collected b r n low = at-generated (length b) (λ i. collected (spread_at b i) (span_at r i)) n None low
 
 -- past its end a list has nothing

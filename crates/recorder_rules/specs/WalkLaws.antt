@@ -14,7 +14,8 @@ pub shifted : (n k i : ℕ) → bit_at (n / 2 ^ k) i ≡ bit_at n (k + i)
 shifted n k i = ap (λ (m : ℕ). m % 2) (shr-shr n k i)
 
 -- where two places lie in one word
-marked_in : (marks : List ℕ) (place i : ℕ) → place % 64 + i < 64 → is_marked marks 0 (place + i) ≡ is_set (get_or marks (place / 64) 0) (place % 64 + i)
+marked_in : (marks : List ℕ) (place i : ℕ) → place % 64 + i < 64
+    → is_marked marks 0 (place + i) ≡ is_set (get_or marks (place / 64) 0) (place % 64 + i)
 marked_in marks place i within =
     let word : 0 + (place + i) / 64 ≡ place / 64 = omega arith in
     let bit : (place + i) % 64 ≡ place % 64 + i = omega arith in
@@ -28,10 +29,13 @@ zero_of n is = rw is refl
 
 module _ (marks : List ℕ) (start place : ℕ) (least : start ≤ place) (before : (x : ℕ) → start ≤ x → x < place → is_marked marks 0 x ≡ false) where
   -- a place of the same word, by the rest of the word
-  marked_rest : (i : ℕ) → place % 64 + i < 64 → is_marked marks 0 (place + i) ≡ (bit_at (get_or marks (place / 64) 0 / 2 ^ (place % 64)) i == 1)
+  marked_rest : (i : ℕ) → place % 64 + i < 64
+      → is_marked marks 0 (place + i) ≡ (bit_at (get_or marks (place / 64) 0 / 2 ^ (place % 64)) i == 1)
   marked_rest i within = marked_in marks place i within ∙ ap (λ (n : ℕ). n == 1) (sym (shifted (get_or marks (place / 64) 0) (place % 64) i))
 
-  pub mark_found : get_or marks (place / 64) 0 < 2 ^ 64 → get_or marks (place / 64) 0 / 2 ^ (place % 64) < 2 ^ 64 → 0 < get_or marks (place / 64) 0 / 2 ^ (place % 64) → IsNextMark marks start (place + trailing_zeros w64 (get_or marks (place / 64) 0 / 2 ^ (place % 64)))
+  pub mark_found : get_or marks (place / 64) 0 < 2 ^ 64 → get_or marks (place / 64) 0 / 2 ^ (place % 64) < 2 ^ 64
+      → 0 < get_or marks (place / 64) 0 / 2 ^ (place % 64)
+      → IsNextMark marks start (place + trailing_zeros w64 (get_or marks (place / 64) 0 / 2 ^ (place % 64)))
   mark_found low small some =
       let found = bit_at-trailing_zeros w64 (get_or marks (place / 64) 0 / 2 ^ (place % 64)) some small in
       let zeros = trailing_zeros w64 (get_or marks (place / 64) 0 / 2 ^ (place % 64)) in
@@ -53,7 +57,8 @@ module _ (marks : List ℕ) (start place : ℕ) (least : start ≤ place) (befor
             | inr over ↦ absurd (let none = bit_at_above (get_or marks (place / 64) 0) 64 (place % 64 + zeros) low over in let some : bit_at (get_or marks (place / 64) 0) (place % 64 + zeros) ≡ 1 = sym (shifted (get_or marks (place / 64) 0) (place % 64) zeros) ∙ is in let bad : 0 ≡ 1 = sym none ∙ some in cc)
           ]
 
-  pub rest_clear : get_or marks (place / 64) 0 / 2 ^ (place % 64) ≡ 0 → (x : ℕ) → start ≤ x → x < (place / 64 + 1) * 64 → is_marked marks 0 x ≡ false
+  pub rest_clear : get_or marks (place / 64) 0 / 2 ^ (place % 64) ≡ 0 → (x : ℕ) → start ≤ x → x < (place / 64 + 1) * 64
+      → is_marked marks 0 x ≡ false
   rest_clear none x from below =
       elim (cases_lt x place) [
         | inl earlier ↦ before x from earlier

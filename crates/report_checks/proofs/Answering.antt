@@ -29,7 +29,8 @@ use Rattle.report_objections.specs.Objecting.{place_of, left_objection, found_ob
 use Rattle.report_objections.specs.Checks.{IsChecked, refused, applied}
 use Rattle.report_checks.specs.Applied.{IsRefusedAt}
 
-pub placed_later : {A : Type 0} (p : A → Bool) (b : ℕ) (xs more : List A) (x : A) (answer : Option ℕ) → xs ≡ x ∷ more → p x ≡ false → place_of p b xs ≡ answer → place_of p (b + 1) more ≡ answer
+pub placed_later : {A : Type 0} (p : A → Bool) (b : ℕ) (xs more : List A) (x : A) (answer : Option ℕ) → xs ≡ x ∷ more
+    → p x ≡ false → place_of p b xs ≡ answer → place_of p (b + 1) more ≡ answer
 placed_later {A} p b xs more x answer split miss is =
     sym (ap (λ (v : Bool). cond v (Some b) (place_of p (b + 1) more)) miss) ∙ sym (ap (λ (zs : List A). place_of p b zs) split) ∙ is
 
@@ -40,7 +41,8 @@ module _ {S T C : Type 0} (machine : S → Machine T C) (w : Pooled S T FourReco
       let low = (kept.placed spot.0 (contained w.spots 0 spot.0 spot.1)).in_range in
       subst (λ (p : Outlined). n < length p.nodes) same (subst (λ (k : ℕ). k < length w.outline.nodes) spot.2 low)
 
-left_at : {T : Type 0} (o : Outlined) (spots : List (Spot T FourRecorders)) (n : ℕ) (row : NodeRow) → slice_get (map (λ (spot : Spot T FourRecorders). spot.node) spots) 0 ≡ Some n → slice_get o.nodes n ≡ Some row
+left_at : {T : Type 0} (o : Outlined) (spots : List (Spot T FourRecorders)) (n : ℕ) (row : NodeRow)
+    → slice_get (map (λ (spot : Spot T FourRecorders). spot.node) spots) 0 ≡ Some n → slice_get o.nodes n ≡ Some row
     → left_objection o spots ≡ Some (objections.NoEnd row.scope)
 left_at o [] n row at there = absurd (none-some n at)
 left_at o (spot ∷ spots) n row at there =
@@ -65,19 +67,23 @@ no_places {T = T} w o report cert none same =
 module _ {S T C : Type 0} (machine : S → Machine T C) (states : Order T) (stepper : S) (o : Outlined) (report : Reported) (cert : Certificate)
     (there : report.cert ≡ Some cert) (shape : HasShape o report cert) (old : Pooled S T FourRecorders FourBooks) (events : List Event)
     (start : old ≡ opened machine four_recording stepper o) (own : events ≡ cert.events) where
-  pub refused_check : (w : Pooled S T FourRecorders FourBooks) (k : ℕ) → IsRefusedAt machine states old events k w → IsChecked machine states stepper o report (Some (objections.NoEvent k))
+  pub refused_check : (w : Pooled S T FourRecorders FourBooks) (k : ℕ) → IsRefusedAt machine states old events k w
+      → IsChecked machine states stepper o report (Some (objections.NoEvent k))
   refused_check w k is =
       let here : IsRefusedAt machine states (opened machine four_recording stepper o) cert.events k w =
       subst (λ (p : Pooled S T FourRecorders FourBooks). IsRefusedAt machine states p cert.events k w) start (subst (λ (es : List Event). IsRefusedAt machine states old es k w) own is) in
       refused cert k here.event w there shape here.there here.so_far here.never refl
 
-  all_here : (w : Pooled S T FourRecorders FourBooks) → HappenAll machine states four_order four_recording old events w → HappenAll machine states four_order four_recording (opened machine four_recording stepper o) cert.events w
+  all_here : (w : Pooled S T FourRecorders FourBooks) → HappenAll machine states four_order four_recording old events w
+      → HappenAll machine states four_order four_recording (opened machine four_recording stepper o) cert.events w
   all_here w happen = subst (λ (p : Pooled S T FourRecorders FourBooks). HappenAll machine states four_order four_recording p cert.events w) start
       (subst (λ (es : List Event). HappenAll machine states four_order four_recording old es w) own happen)
 
-  pub same_outline : (w : Pooled S T FourRecorders FourBooks) → HappenAll machine states four_order four_recording old events w → w.outline ≡ o
+  pub same_outline : (w : Pooled S T FourRecorders FourBooks)
+      → HappenAll machine states four_order four_recording old events w → w.outline ≡ o
   same_outline w happen = (events_one_on machine states cert.events (opened machine four_recording stepper o) w (all_here w happen)).outline
 
-  pub applied_check : (w : Pooled S T FourRecorders FourBooks) (answer : Option Objection) → HappenAll machine states four_order four_recording old events w → answer ≡ end_objection w report cert
+  pub applied_check : (w : Pooled S T FourRecorders FourBooks) (answer : Option Objection)
+      → HappenAll machine states four_order four_recording old events w → answer ≡ end_objection w report cert
       → IsChecked machine states stepper o report answer
   applied_check w answer happen is = applied cert w there shape (all_here w happen) is

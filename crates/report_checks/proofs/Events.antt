@@ -25,7 +25,8 @@ some_at (x ∷ xs) (suc i) low = some_at xs i (omega (arith, low))
 
 module _ {S T C : Type 0} (machine : S → Machine T C) (states : Order T) where
   -- an event that is allowed happens
-  pub allowed_happens : (old : Pooled S T FourRecorders FourBooks) (event : Event) → IsAllowed (positions_of old.spots) event
+  pub allowed_happens : (old : Pooled S T FourRecorders FourBooks) (event : Event)
+      → IsAllowed (positions_of old.spots) event
       → (new : Pooled S T FourRecorders FourBooks) × Happens machine states four_order four_recording old event new
   allowed_happens old (Step i) low =
       let same = length-map old.spots (λ s. s.position) in
@@ -37,18 +38,21 @@ module _ {S T C : Type 0} (machine : S → Machine T C) (states : Order T) where
       (merged_at states four_order old i j a.0 b.0, (a.0, b.0, before, a.1, b.1, a.2 ∙ sym b.2, refl))
 
   -- one event more
-  happen_more : (events : List Event) (old mid new : Pooled S T FourRecorders FourBooks) (event : Event) → HappenAll machine states four_order four_recording old events mid
+  happen_more : (events : List Event) (old mid new : Pooled S T FourRecorders FourBooks) (event : Event)
+      → HappenAll machine states four_order four_recording old events mid
       → Happens machine states four_order four_recording mid event new → HappenAll machine states four_order four_recording old (events ++ event ∷ []) new
   happen_more [] old mid new event is happens = (new, subst (λ (p : Pooled S T FourRecorders FourBooks). Happens machine states four_order four_recording p event new) is happens, refl)
   happen_more (first ∷ events) old mid new event (next, went, rest) happens = (next, went, happen_more events next mid new event rest happens)
 
-  pub events_more : (events : List Event) (k : ℕ) (d : Event) (old mid new : Pooled S T FourRecorders FourBooks) → k < length events → HappenAll machine states four_order four_recording old (take k events) mid
+  pub events_more : (events : List Event) (k : ℕ) (d : Event) (old mid new : Pooled S T FourRecorders FourBooks)
+      → k < length events → HappenAll machine states four_order four_recording old (take k events) mid
       → Happens machine states four_order four_recording mid (get_or events k d) new → HappenAll machine states four_order four_recording old (take (k + 1) events) new
   events_more events k d old mid new low so_far happens =
       subst (λ (es : List Event). HappenAll machine states four_order four_recording old es new) (sym (take_more events k d low)) (happen_more (take k events) old mid new (get_or events k d) so_far happens)
 
   -- an event that does not happen is refused
-  pub refused_at : (events : List Event) (k : ℕ) (d : Event) (old mid new : Pooled S T FourRecorders FourBooks) → k < length events → HappenAll machine states four_order four_recording old (take k events) mid
+  pub refused_at : (events : List Event) (k : ℕ) (d : Event) (old mid new : Pooled S T FourRecorders FourBooks)
+      → k < length events → HappenAll machine states four_order four_recording old (take k events) mid
       → new ≡ mid → ((w : Pooled S T FourRecorders FourBooks) → Happens machine states four_order four_recording mid (get_or events k d) w → ⊥) → IsRefusedAt machine states old events k new
   refused_at events k d old mid new low so_far same never =
       subst (λ (p : Pooled S T FourRecorders FourBooks). IsRefusedAt machine states old events k p) (sym same)

@@ -40,7 +40,8 @@ use Rattle.report_checks.specs.Marks.{total_node, marked_at, marked_by, told_one
 here : {X : Type 0} (xs : List X) (n : ℕ) (v d : X) → n < length xs → slice_index_or (slice_set xs n v) n d ≡ v
 here xs n v d low = grind (arith, common_steps)
 
-elsewhere : {X : Type 0} (xs : List X) (n k : ℕ) (v d : X) → k ≢ n → slice_index_or (slice_set xs n v) k d ≡ slice_index_or xs k d
+elsewhere : {X : Type 0} (xs : List X) (n k : ℕ) (v d : X) → k ≢ n
+    → slice_index_or (slice_set xs n v) k d ≡ slice_index_or xs k d
 elsewhere [] n k v d other = refl
 elsewhere (x ∷ xs) zero zero v d other = absurd (other refl)
 elsewhere (x ∷ xs) zero (suc k) v d other = refl
@@ -75,7 +76,8 @@ tells_is n (Total m low high) = refl
 tells_is n (Pair s a b) = refl
 tells_is n (Alarm m fault) = refl
 
-one_more : (n : ℕ) (f : Fact) (facts : List Fact) (node : Option ℕ) → total_node f ≡ node → lines_of n (f ∷ facts) ≡ bit (tells n node) + lines_of n facts
+one_more : (n : ℕ) (f : Fact) (facts : List Fact) (node : Option ℕ) → total_node f ≡ node
+    → lines_of n (f ∷ facts) ≡ bit (tells n node) + lines_of n facts
 one_more n f facts node is =
     let first : lines_of n (f ∷ facts) ≡ bit (tells_total n f) + lines_of n facts = sum_by-cons (λ g. bit (tells_total n g)) f facts in
     let same : bit (tells_total n f) ≡ bit (tells n node) = ap bit (tells_is n f ∙ ap (tells n) is) in
@@ -92,7 +94,8 @@ record AreMarked (marks : List Bool) (facts : List Fact) (end : List Bool) : Typ
   long : length end ≡ length marks
   each : (n : ℕ) → n < length marks → bit (mark_of marks n) + lines_of n facts ≡ bit (mark_of end n)
 
-marked_more : (marks : List Bool) (f : Fact) (facts end : List _) (m : ℕ) → total_node f ≡ Some m → mark_of marks m ≡ false → AreMarked (slice_set marks m true) facts end → AreMarked marks (f ∷ facts) end
+marked_more : (marks : List Bool) (f : Fact) (facts end : List _) (m : ℕ) → total_node f ≡ Some m
+    → mark_of marks m ≡ false → AreMarked (slice_set marks m true) facts end → AreMarked marks (f ∷ facts) end
 unfolding tells
 marked_more marks f facts end m is free rest = record {
   long = rest.long ∙ length-set marks m true;
@@ -112,12 +115,15 @@ marked_more marks f facts end m is free rest = record {
       ];
 }
 
-all_mark : (marks : List Bool) (facts : List Fact) (end : List Bool) → marked_by (Some marks) facts ≡ Some end → AreMarked marks facts end
+all_mark : (marks : List Bool) (facts : List Fact) (end : List Bool) → marked_by (Some marks) facts ≡ Some end
+    → AreMarked marks facts end
 unfolding tells
 all_mark marks [] end is = record { long = ap (λ (ms : List Bool). length ms) (sym (same_Some marks end is)); each = λ n low. omega (arith, ap (λ (ms : List Bool). bit (mark_of ms n)) (same_Some marks end is)) }
 all_mark marks (f ∷ facts) end is = by (total_node f) refl (λ ms. all_mark ms facts end) is
   where
-    by : (node : Option ℕ) → total_node f ≡ node → ((ms : List Bool) → marked_by (Some ms) facts ≡ Some end → AreMarked ms facts end) → marked_by (marked_at marks node) facts ≡ Some end
+    by : (node : Option ℕ) → total_node f ≡ node
+        → ((ms : List Bool) → marked_by (Some ms) facts ≡ Some end → AreMarked ms facts end)
+        → marked_by (marked_at marks node) facts ≡ Some end
         → AreMarked marks (f ∷ facts) end
     by None is later here = let rest = later marks here in record { long = rest.long; each = λ n low. let count = one_more n f facts None is in let each = rest.each n low in omega (arith, count, each) }
     by (Some m) is later here =
@@ -137,7 +143,8 @@ record IsTwice (marks : List Bool) (facts : List Fact) : Type 0 where
   low : node < length marks
   twice : 2 ≤ bit (mark_of marks node) + lines_of node facts
 
-twice_more : (marks : List Bool) (f : Fact) (facts : List Fact) (m : ℕ) → total_node f ≡ Some m → m < length marks → mark_of marks m ≡ false → IsTwice (slice_set marks m true) facts → IsTwice marks (f ∷ facts)
+twice_more : (marks : List Bool) (f : Fact) (facts : List Fact) (m : ℕ) → total_node f ≡ Some m → m < length marks
+    → mark_of marks m ≡ false → IsTwice (slice_set marks m true) facts → IsTwice marks (f ∷ facts)
 unfolding tells
 twice_more marks f facts m is within free rest =
     let n = rest.node in
@@ -159,7 +166,8 @@ twice_more marks f facts m is within free rest =
       ];
     }
 
-some_twice : (marks : List Bool) (facts : List Fact) → All (IsNumbered (length marks)) facts → marked_by (Some marks) facts ≡ None → IsTwice marks facts
+some_twice : (marks : List Bool) (facts : List Fact) → All (IsNumbered (length marks)) facts
+    → marked_by (Some marks) facts ≡ None → IsTwice marks facts
 unfolding tells
 some_twice marks [] fits is = absurd (none-some marks (sym is))
 some_twice marks (f ∷ facts) fits is = by (total_node f) refl (All-head (IsNumbered (length marks)) f facts fits) (λ ms. some_twice ms facts) is
@@ -199,7 +207,8 @@ module _ (k : ℕ) (facts : List Fact) where
   start_long = length-replicate k false
 
   -- where no node is named twice, all are marked exactly where each has one line
-  pub each_once : (end : List Bool) → marked_by (Some none_marked) facts ≡ Some end → All (λ mark. mark ≡ true) end ↔ ((n : ℕ) → n < k → lines_of n facts ≡ 1)
+  pub each_once : (end : List Bool) → marked_by (Some none_marked) facts ≡ Some end
+      → All (λ mark. mark ≡ true) end ↔ ((n : ℕ) → n < k → lines_of n facts ≡ 1)
   each_once end is = (forth, back)
     where
       are : AreMarked none_marked facts end
@@ -223,7 +232,8 @@ module _ (k : ℕ) (facts : List Fact) where
           (λ n low. is_true (mark_of end n) (let within : n < k = (let same = long in omega (arith, low, same)) in sym (told n within) ∙ each n within))
 
   -- and where one is named twice, it has more
-  pub not_once : All (IsNumbered k) facts → marked_by (Some none_marked) facts ≡ None → ((n : ℕ) → n < k → lines_of n facts ≡ 1) → ⊥
+  pub not_once : All (IsNumbered k) facts → marked_by (Some none_marked) facts ≡ None
+      → ((n : ℕ) → n < k → lines_of n facts ≡ 1) → ⊥
   not_once fits is each =
       let two = some_twice none_marked facts (subst (λ (j : ℕ). All (IsNumbered j) facts) (sym start_long) fits) is in
       let low : two.node < k = (let a = two.low in let same = start_long in omega (arith, a, same)) in
@@ -247,7 +257,8 @@ or_assoc true b c = refl
 or_assoc false b c = refl
 
 -- a set with one fault more
-with_is : (set : FaultSet) (kind fault : RunFault) → has_fault (with_fault set kind) fault ≡ (has_fault set fault || (fault_code fault == fault_code kind))
+with_is : (set : FaultSet) (kind fault : RunFault)
+    → has_fault (with_fault set kind) fault ≡ (has_fault set fault || (fault_code fault == fault_code kind))
 with_is set kind fault =
     by_test (fault_code fault == fault_code kind)
     (λ is.
@@ -263,7 +274,8 @@ module _ (n : ℕ) (fault : RunFault) where
   abbrev is_told : List FaultSet → Bool
   is_told sets = has_fault (alarm_at sets n) fault
 
-  told_more : (sets : List FaultSet) (f : Fact) → n < length sets → is_told (told_one sets f) ≡ (is_told sets || is_alarm n fault f)
+  told_more : (sets : List FaultSet) (f : Fact) → n < length sets
+      → is_told (told_one sets f) ≡ (is_told sets || is_alarm n fault f)
   told_more sets (Loop s low high) within = sym (or_false (is_told sets))
   told_more sets (Count s m low high) within = sym (or_false (is_told sets))
   told_more sets (Dead m) within = sym (or_false (is_told sets))
@@ -292,7 +304,8 @@ module _ (n : ℕ) (fault : RunFault) where
   one_long sets (Alarm m kind) = length-set sets m (with_fault (alarm_at sets m) kind)
 
   -- after all lines a fault is told where it was, or where an alarm tells it
-  pub told_is : (sets : List FaultSet) (facts : List Fact) → n < length sets → is_told (told_by sets facts) ≡ (is_told sets || list_any (λ f. is_alarm n fault f) facts)
+  pub told_is : (sets : List FaultSet) (facts : List Fact) → n < length sets
+      → is_told (told_by sets facts) ≡ (is_told sets || list_any (λ f. is_alarm n fault f) facts)
   told_is sets [] within = sym (or_false (is_told sets))
   told_is sets (f ∷ facts) within =
       told_is (told_one sets f) facts (let same = one_long sets f in omega (arith, within, same))
@@ -306,13 +319,15 @@ told_long sets (f ∷ facts) = told_long (told_one sets f) facts ∙ one_long 0 
 -- ---- turns of loops
 
 -- one line more
-pub marks_more : (old marks more : List Bool) (f : Fact) (rest others facts : List Fact) → rest ≡ f ∷ others → marked_at marks (total_node f) ≡ Some more
+pub marks_more : (old marks more : List Bool) (f : Fact) (rest others facts : List Fact) → rest ≡ f ∷ others
+    → marked_at marks (total_node f) ≡ Some more
     → marked_by (Some marks) rest ≡ marked_by (Some old) facts → marked_by (Some more) others ≡ marked_by (Some old) facts
 marks_more old marks more f rest others facts split taken so_far =
     ap (λ (o : Option (List Bool)). marked_by o others) (sym taken) ∙ ap (λ (fs : List Fact). marked_by (Some marks) fs) (sym split) ∙ so_far
 
 -- a line that does not mark
-pub marks_stop : (old marks : List Bool) (f : Fact) (rest others facts : List Fact) → rest ≡ f ∷ others → marked_at marks (total_node f) ≡ None
+pub marks_stop : (old marks : List Bool) (f : Fact) (rest others facts : List Fact) → rest ≡ f ∷ others
+    → marked_at marks (total_node f) ≡ None
     → marked_by (Some marks) rest ≡ marked_by (Some old) facts → marked_by (Some old) facts ≡ None
 marks_stop old marks f rest others facts split none so_far =
     sym so_far ∙ ap (λ (fs : List Fact). marked_by (Some marks) fs) split ∙ ap (λ (o : Option (List Bool)). marked_by o others) none ∙ none_stays others
@@ -326,12 +341,14 @@ numbered o (Total n low high) fits = node_in o n fits
 numbered o (Pair s a b) fits = tt
 numbered o (Alarm n fault) fits = tt
 
-pub all_numbered : (o : Outlined) (facts : List Fact) → All (λ f. FitsOutline (shape_of o) f) facts → All (IsNumbered (length o.nodes)) facts
+pub all_numbered : (o : Outlined) (facts : List Fact) → All (λ f. FitsOutline (shape_of o) f) facts
+    → All (IsNumbered (length o.nodes)) facts
 all_numbered o facts fit =
     all_members (IsNumbered (length o.nodes)) facts (λ f there. numbered o f (All-contains (λ g. FitsOutline (shape_of o) g) facts f fit there))
 
 -- the first fault that no alarm tells is the first that lacks one
-pub first_told : (facts : List Fact) (told set : FaultSet) (n : ℕ) (faults : List RunFault) → ((fault : RunFault) → has_fault told fault ≡ list_any (λ f. is_alarm n fault f) facts)
+pub first_told : (facts : List Fact) (told set : FaultSet) (n : ℕ) (faults : List RunFault)
+    → ((fault : RunFault) → has_fault told fault ≡ list_any (λ f. is_alarm n fault f) facts)
     → first_untold told set n faults ≡ first_lacking facts set n faults
 first_told facts told set n [] same = refl
 first_told facts told set n (fault ∷ more) same =
@@ -339,7 +356,8 @@ first_told facts told set n (fault ∷ more) same =
     ∙ ap (λ (t : Option Objection). if lacks facts set n fault then Some (NoAlarm n fault) else t) (first_told facts told set n more same)
 
 -- where no fault was told at first, those that are told are those of alarms
-pub told_from_none : (count n : ℕ) (fault : RunFault) (facts : List Fact) (sets : List FaultSet) → n < count → sets ≡ told_by (replicate count no_faults) facts
+pub told_from_none : (count n : ℕ) (fault : RunFault) (facts : List Fact) (sets : List FaultSet) → n < count
+    → sets ≡ told_by (replicate count no_faults) facts
     → has_fault (alarm_at sets n) fault ≡ list_any (λ f. is_alarm n fault f) facts
 told_from_none count n fault facts sets low is =
     let long = length-replicate count no_faults in

@@ -1,4 +1,5 @@
--- What lines tell of nodes: those with a `dead` or a `total` line are marked, and the faults of alarms are kept by node.
+-- What lines tell of nodes: those with a `dead` or a `total` line are marked, and the faults of alarms are kept by
+-- node.
 --   total_node fact        the node whose `dead` or `total` line it is
 --   marked_at marks node   the marks with that of the node; none where it has one, or is not there
 --   marks_if is marks      such marks, if they are there

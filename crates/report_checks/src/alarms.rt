@@ -96,7 +96,8 @@ fn untold(set: FaultSet, told: FaultSet, node: u32) -> Option<Objection>
 fn untold_in(sets: &[FaultSet], found: &Collected, node: u32) -> Option<Objection>
     requires sets { node < length sets.now }
     requires found { node < length found.now.alarms.items }
-    ensures { result ≡ first_untold (alarm_at sets.now node) (alarm_at (found_in found.now).alarms node) node all_faults }
+    ensures { result
+        ≡ first_untold (alarm_at sets.now node) (alarm_at (found_in found.now).alarms node) node all_faults }
 {
     let set = found.alarms[node as usize];
     let told = sets[node as usize];

@@ -19,8 +19,11 @@ pub fn applied<S: Stepper>(
 ) -> Result<Option<u32>, AllocError>
     requires kept { IsPool S.machine four_recording pool.old }
     requires room { pool.old.steps + length events.now < 2 ^ 32 - 2 }
-    ensures all { IfOk result (λ refused. IfNone refused (HappenAll S.machine S.State.order four_order four_recording pool.old events.now pool.new)) }
-    ensures some { IfOk result (λ refused. IfSome refused (λ k. IsRefusedAt S.machine S.State.order pool.old events.now k pool.new)) }
+    ensures all { IfOk result
+        (λ refused. IfNone refused
+        (HappenAll S.machine S.State.order four_order four_recording pool.old events.now pool.new)) }
+    ensures some { IfOk result
+        (λ refused. IfSome refused (λ k. IsRefusedAt S.machine S.State.order pool.old events.now k pool.new)) }
     ensures kept { OnOk result (IsPool S.machine four_recording pool.new) }
 {
     for k in 0..events.len() {

@@ -9,7 +9,11 @@ ghost use Rattle.abstract_exec.specs.Explorations.{IsPool};
 ghost use Rattle.report_soundness.specs.ReportTold.{four_recording};
 ghost use Rattle.flow_gathering.specs.Gathering.{found_in, IsSized};
 ghost use Rattle.report_objections.specs.Shaping.{IsShaped, HasShape};
-ghost use Rattle.report_objections.specs.Objecting.{first_line as first_line_of, path_bound_of, verdict_objection as verdict_objection_of, path_objection as path_objection_of, found_objection as found_objection_of, end_objection as end_objection_of};
+ghost use Rattle.report_objections.specs.Objecting.{first_line as first_line_of, path_bound_of};
+ghost use Rattle.report_objections.specs.Objecting.{verdict_objection as verdict_objection_of};
+ghost use Rattle.report_objections.specs.Objecting.{path_objection as path_objection_of};
+ghost use Rattle.report_objections.specs.Objecting.{found_objection as found_objection_of};
+ghost use Rattle.report_objections.specs.Objecting.{end_objection as end_objection_of};
 ghost use Rattle.report_objections.specs.Checks.{IsChecked};
 ghost use Rattle.report_objections.specs.Accepted.{IsSoundReport, IsScaled};
 
@@ -70,7 +74,8 @@ fn path_objection(
     requires rows { rows.now ≡ system_of outline.now report.now.facts.items }
     requires multipliers { length cert.now.multipliers.items ≡ length rows.now.program.rows }
     requires scaled { pos 0 <ℤ cert.now.scale }
-    ensures { IfOk result (λ objection. objection ≡ path_objection_of outline.now (reported report.now) (certificate_of cert.now)) }
+    ensures { IfOk result
+        (λ objection. objection ≡ path_objection_of outline.now (reported report.now) (certificate_of cert.now)) }
 {
     let multipliers = Vec::from_slice(alloc, &cert.multipliers)?;
     let duals = Duals {
@@ -94,7 +99,9 @@ fn found_objection(
     requires rows { rows.now ≡ system_of outline.now report.now.facts.items }
     requires multipliers { length cert.now.multipliers.items ≡ length rows.now.program.rows }
     requires scaled { pos 0 <ℤ cert.now.scale }
-    ensures { IfOk result (λ objection. objection ≡ found_objection_of outline.now (found_in found.now) (reported report.now) (certificate_of cert.now)) }
+    ensures { IfOk result
+        (λ objection. objection
+        ≡ found_objection_of outline.now (found_in found.now) (reported report.now) (certificate_of cert.now)) }
 {
     let lacking = lacking(alloc, outline, &report.facts, found)?;
     if let Some(objection) = lacking {
@@ -125,7 +132,8 @@ fn end_objection<S: Stepper>(
     requires rows { rows.now ≡ system_of outline.now report.now.facts.items }
     requires multipliers { length cert.now.multipliers.items ≡ length rows.now.program.rows }
     requires scaled { pos 0 <ℤ cert.now.scale }
-    ensures { IfOk result (λ objection. objection ≡ end_objection_of pool.now (reported report.now) (certificate_of cert.now)) }
+    ensures { IfOk result
+        (λ objection. objection ≡ end_objection_of pool.now (reported report.now) (certificate_of cert.now)) }
 {
     if pool.places() > 0 {
         let node = pool.node_at(0);
@@ -157,7 +165,8 @@ fn applied_objection<S: Stepper>(
     requires shape { HasShape outline.now (reported report.now) (certificate_of cert.now) }
     requires rows { rows.now ≡ system_of outline.now report.now.facts.items }
     requires scaled { pos 0 <ℤ cert.now.scale }
-    ensures { IfOk result (λ objection. IsChecked S.machine S.State.order stepper.now outline.now (reported report.now) objection) }
+    ensures { IfOk result
+        (λ objection. IsChecked S.machine S.State.order stepper.now outline.now (reported report.now) objection) }
 {
     if !are_few(cert.events.len()) {
         return Err(AllocError);
@@ -173,9 +182,9 @@ fn applied_objection<S: Stepper>(
 /// The first thing that speaks against the report, by the events and the multipliers of its certificate, whatever made
 /// them.
 ///
-/// Takes time by the events and by what steps take, then by the facts times the nodes and by the rows; and memory for the
-/// places that are left, then for the rows. Want of memory is the only other answer; with no allocation
-/// refused it is given for a certificate of more than 4,294,967,290 events, and for no other.
+/// Takes time by the events and by what steps take, then by the facts times the nodes and by the rows; and memory for
+/// the places that are left, then for the rows. Want of memory is the only other answer; with no allocation refused it
+/// is given for a certificate of more than 4,294,967,290 events, and for no other.
 pub fn objection_to<S: Stepper>(
     alloc: Global,
     stepper: &S,
@@ -186,11 +195,14 @@ pub fn objection_to<S: Stepper>(
     requires scaled { IsScaled (reported report.now) }
 
     // The answer is the first of the objections that holds.
-    ensures answer { IfOk result (λ objection. IsChecked S.machine S.State.order stepper.now outline.now (reported report.now) objection) }
+    ensures answer { IfOk result
+        (λ objection. IsChecked S.machine S.State.order stepper.now outline.now (reported report.now) objection) }
 
-    // Where nothing speaks against it, each run of the stepper's system ends, meets each fact, faults only where an alarm says
-    // so, and costs no more than each bound.
-    ensures sound { IfOk result (λ objection. objection ≡ None → IsSoundReport (S.machine stepper.now).system outline.now (reported report.now)) }
+    // Where nothing speaks against it, each run of the stepper's system ends, meets each fact, faults only where an
+    // alarm says so, and costs no more than each bound.
+    ensures sound { IfOk result
+        (λ objection. objection ≡ None
+        → IsSoundReport (S.machine stepper.now).system outline.now (reported report.now)) }
 {
     stepper.kept();
     outline.kept();

@@ -1,8 +1,8 @@
 //! The check of a report of unknown origin, by its certificate.
 //!
-//! `objection_to` applies the events of the certificate, whatever made them, compares what they collect with the lines of
-//! the report, and tests its multipliers. What it answers is defined in `report_objections`; where nothing speaks against
-//! a report, it is sound.
+//! `objection_to` applies the events of the certificate, whatever made them, compares what they collect with the lines
+//! of the report, and tests its multipliers. What it answers is defined in `report_objections`; where nothing speaks
+//! against a report, it is sound.
 #![tactic(auto)]
 
 // The form of a report.

@@ -1,6 +1,7 @@
 //! The form of a report.
 
-ghost use Rattle.std.specs.Prelude.{◌≡◌, ◌<◌, ◌↔◌, IsTrue, true, false, ℕ, All, IfOk, Some, map, length, replicate, count_by};
+ghost use Rattle.std.specs.Prelude.{◌≡◌, ◌<◌, ◌↔◌, IsTrue, true, false, ℕ, All, IfOk, Some, map, length, replicate};
+ghost use Rattle.std.specs.Prelude.{count_by};
 ghost use Rattle.domain_core.specs.Outlines.{shape_of, kind_of};
 ghost use Rattle.flow_facts.specs.Reports.{node_of, reported};
 ghost use Rattle.ipet_rows.specs.Shaped.{FitsOutline};
@@ -18,7 +19,8 @@ use std::alloc::{AllocError, Global};
 
 // Whether the line is that of the node.
 fn is_node(line: &NodeLine, row: &NodeRow) -> bool
-    ensures { IsTrue result ↔ node_of line.now ≡ record { scope = row.now.scope; cost = row.now.cost; name = row.now.name.items } }
+    ensures { IsTrue result
+        ↔ node_of line.now ≡ record { scope = row.now.scope; cost = row.now.cost; name = row.now.name.items } }
 {
     line.scope == row.scope && line.cost == row.cost && line.name.as_slice() == row.name.as_slice()
 }
@@ -188,7 +190,9 @@ fn are_marked(marks: &[bool]) -> bool
 // Whether each node has one such line.
 fn once_each(alloc: Global, outline: &Outline, facts: &[Fact]) -> Result<bool, AllocError>
     requires fit { All (λ f. FitsOutline (shape_of outline.now) f) facts.now }
-    ensures { IfOk result (λ once. IsTrue once ↔ ((n : ℕ) → n < length outline.now.nodes → count_by (λ f. tells_total n f) facts.now ≡ 1)) }
+    ensures { IfOk result
+        (λ once. IsTrue once
+        ↔ ((n : ℕ) → n < length outline.now.nodes → count_by (λ f. tells_total n f) facts.now ≡ 1)) }
 {
     let mut marks = no_marks(alloc, outline.node_count())?;
     if !mark_lines(&mut marks, facts) {

@@ -10,14 +10,17 @@ use Rattle.report_objections.specs.Accepted.{IsSoundReport}
 use Rattle.report_forms.specs.Migrating.{migrated}
 
 -- what is asked of runs asks nothing of the form
-right_same : (o : Outlined) (report : Reported) (trace : List ℕ) (fault : Option RunFault) → IsRightOf o report trace fault → IsRightOf o (migrated report) trace fault
+right_same : (o : Outlined) (report : Reported) (trace : List ℕ) (fault : Option RunFault)
+    → IsRightOf o report trace fault → IsRightOf o (migrated report) trace fault
 right_same o report trace fault right = record { facts = right.facts; alarm = right.alarm; bound = right.bound }
 
-same_right : (o : Outlined) (report : Reported) (trace : List ℕ) (fault : Option RunFault) → IsRightOf o (migrated report) trace fault → IsRightOf o report trace fault
+same_right : (o : Outlined) (report : Reported) (trace : List ℕ) (fault : Option RunFault)
+    → IsRightOf o (migrated report) trace fault → IsRightOf o report trace fault
 same_right o report trace fault right = record { facts = right.facts; alarm = right.alarm; bound = right.bound }
 
 -- it is sound where the given one is
-pub migrated_sound : {C : Type 0} (system : System C) (o : Outlined) (report : Reported) → IsSoundReport system o report → IsSoundReport system o (migrated report)
+pub migrated_sound : {C : Type 0} (system : System C) (o : Outlined) (report : Reported) → IsSoundReport system o report
+    → IsSoundReport system o (migrated report)
 migrated_sound system o report is = record {
   sound = record {
     ends = is.sound.ends;
@@ -27,7 +30,8 @@ migrated_sound system o report is = record {
 }
 
 -- and nowhere else
-pub sound_migrated : {C : Type 0} (system : System C) (o : Outlined) (report : Reported) → IsSoundReport system o (migrated report) → IsSoundReport system o report
+pub sound_migrated : {C : Type 0} (system : System C) (o : Outlined) (report : Reported)
+    → IsSoundReport system o (migrated report) → IsSoundReport system o report
 sound_migrated system o report is = record {
   sound = record {
     ends = is.sound.ends;

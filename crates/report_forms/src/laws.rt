@@ -9,8 +9,8 @@ ghost use Rattle.report_forms.specs.Migrating.{migrated};
 
 use domain_core::Stepper;
 
-/// The report in the second form is sound, its path bound included, exactly where the given one is; and some text spells it
-/// where some text spells the given one.
+/// The report in the second form is sound, its path bound included, exactly where the given one is; and some text
+/// spells it where some text spells the given one.
 pub fn migrated_reports_say_the_same<S: Stepper>()
     ensures sound { (stepper : S) (o : Outlined) (report : Reported) → IsSoundReport (S.machine stepper).system o report
         ↔ IsSoundReport (S.machine stepper).system o (migrated report) }

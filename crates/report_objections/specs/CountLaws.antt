@@ -66,7 +66,8 @@ no_lines c k = let same = sum_same (λ n. c n * 0) (λ n. 0) k (λ n low. times_
     times_none a = omega arith
 
 -- one line
-one_line : (o : Outlined) (fact : Fact) → FitsOutline (shape_of o) fact → line_cost (costs_of o) fact ≡ sum_below (λ n. slice_index (costs_of o) n * line_most n fact) (length o.nodes)
+one_line : (o : Outlined) (fact : Fact) → FitsOutline (shape_of o) fact
+    → line_cost (costs_of o) fact ≡ sum_below (λ n. slice_index (costs_of o) n * line_most n fact) (length o.nodes)
 one_line o (Loop s low high) fits = no_lines (λ n. slice_index (costs_of o) n) (length o.nodes)
 one_line o (Count s n low high) fits = no_lines (λ n. slice_index (costs_of o) n) (length o.nodes)
 one_line o (Dead n) fits = no_lines (λ n. slice_index (costs_of o) n) (length o.nodes)
@@ -86,7 +87,8 @@ one_line o (Pair s a b) fits = no_lines (λ n. slice_index (costs_of o) n) (leng
 one_line o (Alarm n fault) fits = no_lines (λ n. slice_index (costs_of o) n) (length o.nodes)
 
 -- all lines
-pub lines_cost : (o : Outlined) (facts : List Fact) → FitOutline (shape_of o) facts → most_cost o facts ≡ sum_below (λ n. slice_index (costs_of o) n * most_of n facts) (length o.nodes)
+pub lines_cost : (o : Outlined) (facts : List Fact) → FitOutline (shape_of o) facts
+    → most_cost o facts ≡ sum_below (λ n. slice_index (costs_of o) n * most_of n facts) (length o.nodes)
 lines_cost o [] fits = no_lines (λ n. slice_index (costs_of o) n) (length o.nodes)
 lines_cost o (f ∷ facts) fits =
     let c : ℕ → ℕ = λ n. slice_index (costs_of o) n in
@@ -107,7 +109,8 @@ lines_cost o (f ∷ facts) fits =
 -- ---- runs
 
 -- a node is visited no more often than its lines allow
-visits_within : (o : Outlined) (facts : List Fact) (trace : List ℕ) (n : ℕ) → All (Meets (shape_of o) trace) facts → count_by (λ f. tells_total n f) facts ≡ 1 → visits n trace ≤ most_of n facts
+visits_within : (o : Outlined) (facts : List Fact) (trace : List ℕ) (n : ℕ) → All (Meets (shape_of o) trace) facts
+    → count_by (λ f. tells_total n f) facts ≡ 1 → visits n trace ≤ most_of n facts
 visits_within o facts trace n met once =
     let line = some_passes (λ f. tells_total n f) facts (omega (arith, once)) in
     let at = get_or-le-sum_by (λ f. line_most n f) facts line.there.0 line.it line.there.1 in
@@ -131,7 +134,8 @@ visits_within o facts trace n met once =
     by (Alarm m fault) is meets = absurd (let bad : false ≡ true = is in cc)
 
 -- a run that was collected and meets the facts costs no more than all lines allow
-pub cost_within : (o : Outlined) (found : Found) (past : List ℕ) (facts : List Fact) → SummedUp o found past → FitOutline (shape_of o) facts
+pub cost_within : (o : Outlined) (found : Found) (past : List ℕ) (facts : List Fact) → SummedUp o found past
+    → FitOutline (shape_of o) facts
     → ((n : ℕ) → n < length o.nodes → count_by (λ f. tells_total n f) facts ≡ 1) → All (Meets (shape_of o) (reverse past)) facts
     → run_cost (costs_of o) (reverse past) ≤ most_cost o facts
 cost_within o found past facts run fits once met =

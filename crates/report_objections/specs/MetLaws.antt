@@ -27,7 +27,8 @@ use Rattle.report_objections.specs.Objecting.{is_outside, excludes}
 -- ---- facts
 
 -- a count in a span that is inside the numbers
-inside : (low high c : ℕ) (spread : Option (ℕ × ℕ)) → is_outside low high spread ≡ false → Bounds spread c → IsBetween low high c
+inside : (low high c : ℕ) (spread : Option (ℕ × ℕ)) → is_outside low high spread ≡ false → Bounds spread c
+    → IsBetween low high c
 inside low high c None free bounds = absurd (none-some bounds.span bounds.is)
 inside low high c (Some s) free bounds =
     let within : IsWithin c s = subst (λ (t : ℕ × ℕ). IsWithin c t) (sym (same_Some s bounds.span bounds.is)) bounds.within in
@@ -43,21 +44,24 @@ both_true true b first second = second
 both_true false b first second = first
 
 -- a node of a loop that is not its header is counted
-pub counted_is : (o : Shape) (s n : ℕ) → own_of o n ≡ s → kind_of o.scopes s ≡ LoopScope → header_of o.scopes s ≢ n → is_counted o n ≡ true
+pub counted_is : (o : Shape) (s n : ℕ) → own_of o n ≡ s → kind_of o.scopes s ≡ LoopScope → header_of o.scopes s ≢ n
+    → is_counted o n ≡ true
 counted_is o s n own kind other =
     subst (λ (t : ℕ). (is_loop (kind_of o.scopes t) && not (header_of o.scopes t == n)) ≡ true) (sym own)
     (both_true (is_loop (kind_of o.scopes s)) (not (header_of o.scopes s == n)) (ap (λ (k : ScopeKind). is_loop k) kind) (ap (λ (v : Bool). not v) (ne_eqb (header_of o.scopes s) n other)))
 
 module _ (o : Outlined) (found : Found) (past : List ℕ) (run : SummedUp o found past) where
   -- an execution in its order, as one with the newest node first
-  ordered : (s : ℕ) (execution : List ℕ) → IsExecution (shape_of o) s (reverse past) execution → IsExecution (shape_of o) s (reverse past) (reverse (reverse execution))
+  ordered : (s : ℕ) (execution : List ℕ) → IsExecution (shape_of o) s (reverse past) execution
+      → IsExecution (shape_of o) s (reverse past) (reverse (reverse execution))
   ordered s execution is = subst (λ (e : List ℕ). IsExecution (shape_of o) s (reverse past) e) (sym (reverse-reverse execution)) is
 
   same_places : (n : ℕ) (execution : List ℕ) → places n execution ≡ visits n (reverse execution)
   same_places n execution = ap (λ (e : List ℕ). places n e) (sym (reverse-reverse execution)) ∙ turned n (reverse execution)
 
   -- the run meets each line that does not exclude what was collected
-  pub fact_is_met : (fact : Fact) → FitsOutline (shape_of o) fact → excludes found fact ≡ false → Meets (shape_of o) (reverse past) fact
+  pub fact_is_met : (fact : Fact) → FitsOutline (shape_of o) fact → excludes found fact ≡ false
+      → Meets (shape_of o) (reverse past) fact
   fact_is_met (Loop s low high) fits free = λ execution is.
       let bounds = loop_bounds o run.kept found.books.loops past s (reverse execution) run.books.loops fits.0 (ordered s execution is) in
       let header = header_of (shape_of o).scopes s in

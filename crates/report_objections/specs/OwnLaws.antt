@@ -75,7 +75,8 @@ first_nowhere (suc n) f none =
     let before = first_nowhere n f (λ k low. none k (omega arith)) in
     ap (λ (t : Option _). or_else t (f n)) before ∙ none n (omega arith)
 
-place_nowhere : {A : Type 0} (p : A → Bool) (b : ℕ) (xs : List A) → ((x : A) → Contains xs x → p x ≡ false) → place_of p b xs ≡ None
+place_nowhere : {A : Type 0} (p : A → Bool) (b : ℕ) (xs : List A) → ((x : A) → Contains xs x → p x ≡ false)
+    → place_of p b xs ≡ None
 place_nowhere p b [] none = refl
 place_nowhere p b (x ∷ xs) none =
     ap (λ (v : Bool). cond v (Some b) (place_of p (b + 1) xs)) (none x (first_member x xs))
@@ -86,7 +87,8 @@ place_nowhere p b (x ∷ xs) none =
 less_never : (n : ℕ) → nat_lt n n ≡ false
 less_never n = le-ltb n n (omega arith)
 
-inside_itself : (low high : ℕ) (spread : Option (ℕ × ℕ)) → spread ≡ Some (low, high) → is_outside low high spread ≡ false
+inside_itself : (low high : ℕ) (spread : Option (ℕ × ℕ)) → spread ≡ Some (low, high)
+    → is_outside low high spread ≡ false
 inside_itself low high spread is =
     ap (λ (t : Option (ℕ × ℕ)). is_outside low high t) is ∙ ap (λ (v : Bool). v || nat_lt high high) (less_never low) ∙ less_never high
 
@@ -103,10 +105,12 @@ line_free o found (Alarm n fault) is = refl
 alarm_itself : (n : ℕ) (fault : RunFault) → is_alarm n fault (Alarm n fault) ≡ true
 alarm_itself n fault = ap (λ (v : Bool). v && (fault_code fault == fault_code fault)) (eq-eqb n n refl) ∙ eq-eqb (fault_code fault) (fault_code fault) refl
 
-has_line : (facts : List Fact) (n : ℕ) (fault : RunFault) → Contains facts (Alarm n fault) → list_any (λ f. is_alarm n fault f) facts ≡ true
+has_line : (facts : List Fact) (n : ℕ) (fault : RunFault) → Contains facts (Alarm n fault)
+    → list_any (λ f. is_alarm n fault f) facts ≡ true
 has_line facts n fault there = list_any_at (λ f. is_alarm n fault f) facts there.0 (Alarm n fault) there.1 (ap (λ (f : Fact). is_alarm n fault f) there.2 ∙ alarm_itself n fault)
 
-not_lacking : (facts : List Fact) (set : FaultSet) (n : ℕ) (fault : RunFault) → (has_fault set fault ≡ true → Contains facts (Alarm n fault)) → lacks facts set n fault ≡ false
+not_lacking : (facts : List Fact) (set : FaultSet) (n : ℕ) (fault : RunFault)
+    → (has_fault set fault ≡ true → Contains facts (Alarm n fault)) → lacks facts set n fault ≡ false
 not_lacking facts set n fault there =
     by_test (has_fault set fault)
     (λ is. ap (λ (v : Bool). has_fault set fault && not v) (has_line facts n fault (there is)) ∙ none_and (has_fault set fault))
@@ -116,7 +120,9 @@ not_lacking facts set n fault there =
     none_and true = refl
     none_and false = refl
 
-lacking_nowhere : (facts : List Fact) (set : FaultSet) (n : ℕ) (faults : List RunFault) → ((fault : RunFault) → has_fault set fault ≡ true → Contains facts (Alarm n fault)) → first_lacking facts set n faults ≡ None
+lacking_nowhere : (facts : List Fact) (set : FaultSet) (n : ℕ) (faults : List RunFault)
+    → ((fault : RunFault) → has_fault set fault ≡ true → Contains facts (Alarm n fault))
+    → first_lacking facts set n faults ≡ None
 lacking_nowhere facts set n [] there = refl
 lacking_nowhere facts set n (fault ∷ more) there =
     ap (λ (v : Bool). cond v (Some (objections.NoAlarm n fault)) (first_lacking facts set n more)) (not_lacking facts set n fault (there fault))
@@ -133,7 +139,8 @@ none_pass p (x ∷ xs) none =
     omega (arith, all, here, rest)
 
 -- of facts that ascend one passes where just one does
-one_passes : (p : Fact → Bool) (facts : List Fact) → AllPairs IsBefore facts → (f : Fact) → Contains facts f → p f ≡ true → ((g : Fact) → Contains facts g → p g ≡ true → g ≡ f) → count_by p facts ≡ 1
+one_passes : (p : Fact → Bool) (facts : List Fact) → AllPairs IsBefore facts → (f : Fact) → Contains facts f
+    → p f ≡ true → ((g : Fact) → Contains facts g → p g ≡ true → g ≡ f) → count_by p facts ≡ 1
 one_passes p [] up f there is only = no_member f there
 one_passes p (x ∷ xs) up f there is only =
     let all : count_by p (x ∷ xs) ≡ bit (p x) + count_by p xs = sum_by-cons (λ y. bit (p y)) x xs in
@@ -157,7 +164,8 @@ one_passes p (x ∷ xs) up f there is only =
 
 module _ (o : Outlined) (found : Found) (totals : HaveTotals o found) (fit : FitOutline (shape_of o) (told_facts o found)) where
   -- the total of a node is that of its line
-  only_total : (n : ℕ) (g : Fact) → Contains (told_facts o found) g → tells_total n g ≡ true → is_stepped found n ≡ true → (low high : ℕ) → spread_at found.books.totals n ≡ Some (low, high) → g ≡ Total n low high
+  only_total : (n : ℕ) (g : Fact) → Contains (told_facts o found) g → tells_total n g ≡ true → is_stepped found n ≡ true
+      → (low high : ℕ) → spread_at found.books.totals n ≡ Some (low, high) → g ≡ Total n low high
   only_total n (Loop s a b) there is stepped low high span = absurd (let bad : false ≡ true = is in cc)
   only_total n (Count s m a b) there is stepped low high span = absurd (let bad : false ≡ true = is in cc)
   only_total n (Dead m) there is stepped low high span =
@@ -174,7 +182,8 @@ module _ (o : Outlined) (found : Found) (totals : HaveTotals o found) (fit : Fit
   only_total n (Pair s a b) there is stepped low high span = absurd (let bad : false ≡ true = is in cc)
   only_total n (Alarm m fault) there is stepped low high span = absurd (let bad : false ≡ true = is in cc)
 
-  only_dead : (n : ℕ) (g : Fact) → Contains (told_facts o found) g → tells_total n g ≡ true → is_stepped found n ≡ false → g ≡ Dead n
+  only_dead : (n : ℕ) (g : Fact) → Contains (told_facts o found) g → tells_total n g ≡ true → is_stepped found n ≡ false
+      → g ≡ Dead n
   only_dead n (Loop s a b) there is never = absurd (let bad : false ≡ true = is in cc)
   only_dead n (Count s m a b) there is never = absurd (let bad : false ≡ true = is in cc)
   only_dead n (Dead m) there is never = ap (λ (k : ℕ). Dead k) (sym (eqb-true n m is))
@@ -198,12 +207,14 @@ module _ (o : Outlined) (found : Found) (totals : HaveTotals o found) (fit : Fit
       one_passes (λ f. tells_total n f) (told_facts o found) (told_ascend o found) (Dead n) (line_told o found (Dead n) (low, never)) (eq-eqb n n refl)
       (λ g there is. only_dead n g there is never))
 
-  pub own_shaped : (bound : Option (ℕ × BoundWord)) (cert : Certificate) → IsShaped o (with_certificate (told_report o found) bound cert)
+  pub own_shaped : (bound : Option (ℕ × BoundWord)) (cert : Certificate)
+      → IsShaped o (with_certificate (told_report o found) bound cert)
   own_shaped bound cert = record { nodes = refl; scopes = refl; facts = fit; totals = once_told }
 
   -- ---- the count bound
 
-  sum_at_most : (p : Fact → Bool) (g : Fact → ℕ) (h : ℕ) (facts : List Fact) → ((f : Fact) → Contains facts f → g f ≤ cond (p f) h 0) → sum_by g facts ≤ count_by p facts * h
+  sum_at_most : (p : Fact → Bool) (g : Fact → ℕ) (h : ℕ) (facts : List Fact)
+      → ((f : Fact) → Contains facts f → g f ≤ cond (p f) h 0) → sum_by g facts ≤ count_by p facts * h
   sum_at_most p g h [] each = omega arith
   sum_at_most p g h (f ∷ facts) each =
       let all : count_by p (f ∷ facts) ≡ bit (p f) + count_by p facts = sum_by-cons (λ y. bit (p y)) f facts in
@@ -230,7 +241,8 @@ module _ (o : Outlined) (found : Found) (totals : HaveTotals o found) (fit : Fit
       let one : count_by (λ f. tells_total n f) (told_facts o found) * h ≡ 1 * h = ap (λ (k : ℕ). k * h) once in
       omega (arith, most, one)
     where
-      each : (f : Fact) → Contains (told_facts o found) f → line_most n f ≤ cond (tells_total n f) (greatest_total found n) 0
+      each : (f : Fact) → Contains (told_facts o found) f
+          → line_most n f ≤ cond (tells_total n f) (greatest_total found n) 0
       each (Loop s a b) there = omega arith
       each (Count s m a b) there = omega arith
       each (Dead m) there = omega arith

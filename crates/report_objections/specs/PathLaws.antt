@@ -33,7 +33,8 @@ below_next : (cost v : ℕ) (z : ℤ) → z <ℤ (pos (suc v) *ℤ pos 1) → z 
 below_next cost v z less is = omega (arith, ints, less, is)
 
 -- where multipliers hold, each run that meets the facts costs at most the bound
-run_bounded : (o : Outlined) → IsOutline (shape_of o) → (facts : List Fact) (fault : Bool) (k : ℕ) (past : List ℕ) → IsEnded (shape_of o) facts fault (k ∷ past)
+run_bounded : (o : Outlined) → IsOutline (shape_of o) → (facts : List Fact) (fault : Bool) (k : ℕ) (past : List ℕ)
+    → IsEnded (shape_of o) facts fault (k ∷ past)
     → FitOutline (shape_of o) facts → MeetFacts (shape_of o) (reverse (k ∷ past)) facts → (v bound : ℕ) → BoundsAll (rows_of o facts) v bound
     → run_cost (costs_of o) (k ∷ past) ≤ bound
 run_bounded o ok facts fault k past run fits met v bound all =
@@ -58,7 +59,8 @@ alarm_there facts n fault there =
 module _ {T C : Type 0} (m : Machine T C) (o : Outlined) (ok : IsOutline (shape_of o)) (along : IsAlong T C (shape_of o) m)
     (facts : List Fact) (fit : FitOutline (shape_of o) facts) (v bound : ℕ) (all : BoundsAll (rows_of o facts) v bound) where
   -- the run is over at its newest node
-  over_at : (past : List ℕ) (n : ℕ) (fault : Bool) → IsTrace (shape_of o) (n ∷ past) → EndsAt (shape_of o) facts fault (n ∷ past)
+  over_at : (past : List ℕ) (n : ℕ) (fault : Bool) → IsTrace (shape_of o) (n ∷ past)
+      → EndsAt (shape_of o) facts fault (n ∷ past)
       → All (Meets (shape_of o) (reverse past ++ n ∷ [])) facts → run_cost (costs_of o) (reverse past ++ n ∷ []) ≤ bound
   over_at past n fault walk ends met =
       let same : reverse (n ∷ past) ≡ reverse past ++ n ∷ [] = reverse-append (n ∷ []) past in

@@ -71,7 +71,8 @@ no_image f None e = refl
 no_image f (Some x) e = absurd cc
 
 -- no place passes
-never_placed : {A : Type 0} (p : A → Bool) (b : ℕ) (xs : List A) → place_of p b xs ≡ None → (x : A) → Contains xs x → p x ≡ false
+never_placed : {A : Type 0} (p : A → Bool) (b : ℕ) (xs : List A) → place_of p b xs ≡ None → (x : A) → Contains xs x
+    → p x ≡ false
 never_placed p b [] none x there = no_member x there
 never_placed p b (y ∷ xs) none x there =
     by_test (p y)
@@ -122,14 +123,17 @@ alarm_is n fault (Alarm m other) is =
     let same : fault ≡ other = same_fault fault other (eqb-true (fault_code fault) (fault_code other) tests.1) in
     sym (ap (λ (k : ℕ). Alarm k fault) node ∙ ap (λ (g : RunFault). Alarm m g) same)
 
-found_alarm : (n : ℕ) (fault : RunFault) (facts : List Fact) → list_any (λ f. is_alarm n fault f) facts ≡ true → Contains facts (Alarm n fault)
+found_alarm : (n : ℕ) (fault : RunFault) (facts : List Fact) → list_any (λ f. is_alarm n fault f) facts ≡ true
+    → Contains facts (Alarm n fault)
 found_alarm n fault [] is = absurd (let bad : false ≡ true = is in cc)
 found_alarm n fault (f ∷ facts) is =
     by_test (is_alarm n fault f)
     (λ here. subst (λ (g : Fact). Contains (f ∷ facts) g) (alarm_is n fault f here) (first_member f facts))
     (λ other. further_member f facts (Alarm n fault) (found_alarm n fault facts (sym (ap (λ (v : Bool). v || list_any (λ g. is_alarm n fault g) facts) other) ∙ is)))
 
-none_lacking : (facts : List Fact) (set : FaultSet) (n : ℕ) (faults : List RunFault) → first_lacking facts set n faults ≡ None → (fault : RunFault) → Contains faults fault → lacks facts set n fault ≡ false
+none_lacking : (facts : List Fact) (set : FaultSet) (n : ℕ) (faults : List RunFault)
+    → first_lacking facts set n faults ≡ None → (fault : RunFault) → Contains faults fault
+    → lacks facts set n fault ≡ false
 none_lacking facts set n [] none fault there = no_member fault there
 none_lacking facts set n (first ∷ more) none fault there =
     by_test (lacks facts set n first)
@@ -144,7 +148,8 @@ has_it true true is none = refl
 has_it true false is none = absurd (let bad : true ≡ false = none in cc)
 has_it false there is none = absurd (let bad : false ≡ true = is in cc)
 
-alarms_told : (o : Outlined) (found : Found) (facts : List Fact) → alarm_objection o found facts ≡ None → (n : ℕ) (fault : RunFault) → n < length o.nodes
+alarms_told : (o : Outlined) (found : Found) (facts : List Fact) → alarm_objection o found facts ≡ None
+    → (n : ℕ) (fault : RunFault) → n < length o.nodes
     → has_fault (alarm_at found.alarms n) fault ≡ true → Contains facts (Alarm n fault)
 alarms_told o found facts none n fault low told =
     let here = first_never (length o.nodes) n (λ m. first_lacking facts (alarm_at found.alarms m) m all_faults) none low in
@@ -153,7 +158,8 @@ alarms_told o found facts none n fault low told =
 
 -- ---- bounds
 
-count_fits : (o : Outlined) (report : Reported) → count_objection o report ≡ None → most_cost o report.facts ≤ report.count_bound
+count_fits : (o : Outlined) (report : Reported) → count_objection o report ≡ None
+    → most_cost o report.facts ≤ report.count_bound
 count_fits o report none =
     by_test (nat_lt report.count_bound (most_cost o report.facts))
     (λ is. absurd (let bad : Some objections.NoCountBound ≡ None = sym (ap (λ (v : Bool). cond v (Some objections.NoCountBound) None) is) ∙ none in cc))
@@ -171,7 +177,8 @@ verdict_holds (verdicts.Column e) none = absurd cc
 verdict_holds (verdicts.Bound v) none = absurd cc
 
 -- the program of an outline and facts is one of its columns
-rows_within : (columns : List Column) (ws : List Weighing) (n k : ℕ) → n ≡ length columns → IsWithin n (row_at (map (λ w. row_of columns w) ws) k).terms
+rows_within : (columns : List Column) (ws : List Weighing) (n k : ℕ) → n ≡ length columns
+    → IsWithin n (row_at (map (λ w. row_of columns w) ws) k).terms
 rows_within columns [] n k is = tt
 rows_within columns (w ∷ ws) n zero is = terms_within w.weight 0 n columns (omega (arith, is))
 rows_within columns (w ∷ ws) n (suc k) is = rows_within columns ws n k is
@@ -193,7 +200,8 @@ module _ {S T C : Type 0} (machine : S → Machine T C) (w : Pooled S T FourReco
   alarms : (alarm_objection w.outline (found_of w) report.facts ≡ None) × (or_else (fact_objection (found_of w) report) (or_else (count_objection w.outline report) (path_objection w.outline report cert)) ≡ None)
   alarms = or_none (alarm_objection w.outline (found_of w) report.facts) (or_else (fact_objection (found_of w) report) (or_else (count_objection w.outline report) (path_objection w.outline report cert))) left.1
 
-  facts : (fact_objection (found_of w) report ≡ None) × (or_else (count_objection w.outline report) (path_objection w.outline report cert) ≡ None)
+  facts : (fact_objection (found_of w) report ≡ None)
+      × (or_else (count_objection w.outline report) (path_objection w.outline report cert) ≡ None)
   facts = or_none (fact_objection (found_of w) report) (or_else (count_objection w.outline report) (path_objection w.outline report cert)) alarms.1
 
   bounds : (count_objection w.outline report ≡ None) × (path_objection w.outline report cert ≡ None)
@@ -208,7 +216,8 @@ module _ {S T C : Type 0} (machine : S → Machine T C) (w : Pooled S T FourReco
   fits : (f : Fact) → Contains report.facts f → FitsOutline (shape_of w.outline) f
   fits f there = subst (λ (g : Fact). FitsOutline (shape_of w.outline) g) there.2 (shape.shaped.facts there.0 f there.1)
 
-  facts_met : (past : List ℕ) → SummedUp w.outline (found_of w) past → All (Meets (shape_of w.outline) (reverse past)) report.facts
+  facts_met : (past : List ℕ) → SummedUp w.outline (found_of w) past
+      → All (Meets (shape_of w.outline) (reverse past)) report.facts
   facts_met past run = all_members (Meets (shape_of w.outline) (reverse past)) report.facts (λ f there. fact_is_met w.outline (found_of w) past run f (fits f there) (free f there))
 
   holds : HoldsOfCollected w.outline (found_of w) report
@@ -235,7 +244,9 @@ module _ {S T C : Type 0} (machine : S → Machine T C) (w : Pooled S T FourReco
   sound_end : IsSoundReport (machine w.stepper).system w.outline report
   sound_end = record { sound = sound_here; path = by report.path_bound path_here }
     where
-      by : (t : Option (ℕ × BoundWord)) → CostAtMost (machine w.stepper).system w.outline (option_map_or (λ b. b.0) t (2 ^ 64 - 1)) → IfSome t (λ b. CostAtMost (machine w.stepper).system w.outline b.0)
+      by : (t : Option (ℕ × BoundWord))
+          → CostAtMost (machine w.stepper).system w.outline (option_map_or (λ b. b.0) t (2 ^ 64 - 1))
+          → IfSome t (λ b. CostAtMost (machine w.stepper).system w.outline b.0)
       by None at_most = tt
       by (Some b) at_most = at_most
 

@@ -17,12 +17,14 @@ abbrev pub report_of : {S T : Type 0} → Pooled S T FourRecorders FourBooks →
 report_of w = told_report w.outline (found_of w)
 
 module _ {S T C : Type 0} (machine : S → Machine T C) (states : Order T) (policy : Policy) where
-  pub one_report : (turns : ℕ) (old new other : Pooled S T FourRecorders FourBooks) (events others : List Event) → IsPolicyRun machine states four_order four_recording policy turns old events new
+  pub one_report : (turns : ℕ) (old new other : Pooled S T FourRecorders FourBooks) (events others : List Event)
+      → IsPolicyRun machine states four_order four_recording policy turns old events new
       → IsPolicyRun machine states four_order four_recording policy turns old others other → report_of new ≡ report_of other
   one_report turns old new other events others first second =
       ap (λ (w : Pooled S T FourRecorders FourBooks). report_of w) (run_unique machine states four_order four_recording policy turns events others old new other first second).1
 
-  pub longer_report : (turns more : ℕ) (old new other : Pooled S T FourRecorders FourBooks) (events others : List Event) → new.steps ≤ more
+  pub longer_report : (turns more : ℕ) (old new other : Pooled S T FourRecorders FourBooks) (events others : List Event)
+      → new.steps ≤ more
       → IsPolicyRun machine states four_order four_recording policy turns old events new → new.spots ≡ [] → IsPolicyRun machine states four_order four_recording policy more old others other
       → (other.spots ≡ []) × (report_of new ≡ report_of other)
   longer_report turns more old new other events others enough first none second =

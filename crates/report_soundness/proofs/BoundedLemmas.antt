@@ -35,14 +35,17 @@ module _ (o : Outlined) (report : Reported) (is : IsTold o report) where
 -- ---- closed explorations
 
 -- and the report is a told one
-pub kept_told : {S T C : Type 0} (machine : S → Machine T C) (w : Pooled S T FourRecorders FourBooks) → IsKept machine four_recording w → w.spots ≡ []
+pub kept_told : {S T C : Type 0} (machine : S → Machine T C) (w : Pooled S T FourRecorders FourBooks)
+    → IsKept machine four_recording w → w.spots ≡ []
     → HasRun (machine w.stepper).system → IsTold w.outline (told_report w.outline (found_of w))
 kept_told machine w kept empty run = record { found = found_of w; told = refl; totals = kept_totals machine w kept empty run }
 
 -- ---- the count bound
 
--- where some run that meets the facts costs the count bound, what no such run passes and is at most the count bound is the count bound
-pub met_at_bound : (o : Outlined) (report : Reported) (v : ℕ) → IsAbove o report.facts v → v ≤ report.count_bound → FitOutline (shape_of o) report.facts
+-- where some run that meets the facts costs the count bound, what no such run passes and is at most the count bound is
+-- the count bound
+pub met_at_bound : (o : Outlined) (report : Reported) (v : ℕ) → IsAbove o report.facts v → v ≤ report.count_bound
+    → FitOutline (shape_of o) report.facts
     → (fault : Bool) (k : ℕ) (past : List ℕ) → IsEnded (shape_of o) report.facts fault (k ∷ past) → MeetFacts (shape_of o) (reverse (k ∷ past)) report.facts
     → run_cost (costs_of o) (k ∷ past) ≡ report.count_bound → v ≡ report.count_bound
 met_at_bound o report v above within fit fault k past run met cost =

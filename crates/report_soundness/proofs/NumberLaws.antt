@@ -48,11 +48,13 @@ after_step k true false s is = zeros (k + 1)
 after_step k false true s is = one_later k s is
 after_step k false false s is = weaker k (k + 1) s (omega arith) is
 
-collects : (k : ℕ) (t : Option (ℕ × ℕ)) (s : ℕ × ℕ) → IsOrderlySpread k t → IsOrderly k s → IsOrderlySpread k (collected t s)
+collects : (k : ℕ) (t : Option (ℕ × ℕ)) (s : ℕ × ℕ) → IsOrderlySpread k t → IsOrderly k s
+    → IsOrderlySpread k (collected t s)
 collects k None s old is = is
 collects k (Some u) s old is = united k u s old is
 
-spread_step : (k : ℕ) (left : Bool) (t : Option (ℕ × ℕ)) (s : ℕ × ℕ) → IsOrderlySpread k t → IsOrderly k s → IsOrderlySpread k (spread_after left t s)
+spread_step : (k : ℕ) (left : Bool) (t : Option (ℕ × ℕ)) (s : ℕ × ℕ) → IsOrderlySpread k t → IsOrderly k s
+    → IsOrderlySpread k (spread_after left t s)
 spread_step k true t s old is = collects k t s old is
 spread_step k false t s old is = old
 
@@ -71,7 +73,8 @@ module _ {A : Type 0} (P : A → Type 0) where
   all_replicated (suc n) x d is rest zero = is
   all_replicated (suc n) x d is rest (suc i) = all_replicated n x d is rest i
 
-  all_set : (xs : List A) (k : ℕ) (v d : A) → P v → ((i : ℕ) → P (get_or xs i d)) → (i : ℕ) → P (get_or (set xs k v) i d)
+  all_set : (xs : List A) (k : ℕ) (v d : A) → P v → ((i : ℕ) → P (get_or xs i d)) → (i : ℕ)
+      → P (get_or (set xs k v) i d)
   all_set [] zero v d is each i = each i
   all_set [] (suc k) v d is each i = each i
   all_set (x ∷ xs) zero v d is each zero = is
@@ -81,29 +84,34 @@ module _ {A : Type 0} (P : A → Type 0) where
 
 -- ---- the recorders and the books
 
-spans_step : (k : ℕ) (o : Outlined) (w : Tally) (r : List (ℕ × ℕ)) (n m : ℕ) → ((i : ℕ) → IsOrderly k (span_at r i)) → (i : ℕ) → IsOrderly (k + 1) (span_at (spans_gone (shape_of o) w r n m) i)
+spans_step : (k : ℕ) (o : Outlined) (w : Tally) (r : List (ℕ × ℕ)) (n m : ℕ) → ((i : ℕ) → IsOrderly k (span_at r i))
+    → (i : ℕ) → IsOrderly (k + 1) (span_at (spans_gone (shape_of o) w r n m) i)
 spans_step k o w r n m each =
     all_generated (IsOrderly (k + 1)) (length r) (λ i. span_after (leaves (shape_of o) (key_at w.scopes i) n m) (is_at (key_at w.nodes i) m) (span_at r i)) (0, 0)
     (λ i. after_step k (leaves (shape_of o) (key_at w.scopes i) n m) (is_at (key_at w.nodes i) m) (span_at r i) (each i)) (zeros (k + 1))
 
-spreads_step : (k : ℕ) (o : Outlined) (w : Tally) (r : List (ℕ × ℕ)) (b : List (Option (ℕ × ℕ))) (n m : ℕ) → ((i : ℕ) → IsOrderly k (span_at r i)) → ((i : ℕ) → IsOrderlySpread k (spread_at b i))
+spreads_step : (k : ℕ) (o : Outlined) (w : Tally) (r : List (ℕ × ℕ)) (b : List (Option (ℕ × ℕ))) (n m : ℕ)
+    → ((i : ℕ) → IsOrderly k (span_at r i)) → ((i : ℕ) → IsOrderlySpread k (spread_at b i))
     → (i : ℕ) → IsOrderlySpread k (spread_at (spreads_gone (shape_of o) w r b n m) i)
 spreads_step k o w r b n m each old =
     all_generated (IsOrderlySpread k) (length b) (λ i. spread_after (leaves (shape_of o) (key_at w.scopes i) n m) (spread_at b i) (span_at r i)) None
     (λ i. spread_step k (leaves (shape_of o) (key_at w.scopes i) n m) (spread_at b i) (span_at r i) (old i) (each i)) tt
 
-spreads_end : (k : ℕ) (o : Outlined) (w : Tally) (r : List (ℕ × ℕ)) (b : List (Option (ℕ × ℕ))) (n : ℕ) → ((i : ℕ) → IsOrderly k (span_at r i)) → ((i : ℕ) → IsOrderlySpread k (spread_at b i))
+spreads_end : (k : ℕ) (o : Outlined) (w : Tally) (r : List (ℕ × ℕ)) (b : List (Option (ℕ × ℕ))) (n : ℕ)
+    → ((i : ℕ) → IsOrderly k (span_at r i)) → ((i : ℕ) → IsOrderlySpread k (spread_at b i))
     → (i : ℕ) → IsOrderlySpread k (spread_at (spreads_ended (shape_of o) w r b n) i)
 spreads_end k o w r b n each old =
     all_generated (IsOrderlySpread k) (length b) (λ i. spread_after (is_within (shape_of o) (key_at w.scopes i) n) (spread_at b i) (span_at r i)) None
     (λ i. spread_step k (is_within (shape_of o) (key_at w.scopes i) n) (spread_at b i) (span_at r i) (old i) (each i)) tt
 
-spans_joined : (k : ℕ) (r s : List (ℕ × ℕ)) → ((i : ℕ) → IsOrderly k (span_at r i)) → ((i : ℕ) → IsOrderly k (span_at s i))
+spans_joined : (k : ℕ) (r s : List (ℕ × ℕ)) → ((i : ℕ) → IsOrderly k (span_at r i))
+    → ((i : ℕ) → IsOrderly k (span_at s i))
     → (i : ℕ) → IsOrderly k (span_at (generated (length r) (λ j. span_of (get_or r j (0, 0)) (get_or s j (0, 0)))) i)
 spans_joined k r s first second =
     all_generated (IsOrderly k) (length r) (λ j. span_of (get_or r j (0, 0)) (get_or s j (0, 0))) (0, 0) (λ i. united k (span_at r i) (span_at s i) (first i) (second i)) (zeros k)
 
-first_tally : (w : Tally) → (i : ℕ) → IsOrderly 1 (span_at (generated (length w.scopes) (λ j. cond (is_at (key_at w.nodes j) 0) (1, 1) (0, 0))) i)
+first_tally : (w : Tally) → (i : ℕ)
+    → IsOrderly 1 (span_at (generated (length w.scopes) (λ j. cond (is_at (key_at w.nodes j) 0) (1, 1) (0, 0))) i)
 first_tally w =
     all_generated (IsOrderly 1) (length w.scopes) (λ j. cond (is_at (key_at w.nodes j) 0) (1, 1) (0, 0)) (0, 0) (λ i. one (is_at (key_at w.nodes i) 0)) (zeros 1)
   where
@@ -126,21 +134,24 @@ module _ (o : Outlined) where
     counts = all_replicated (IsOrderlySpread 0) (length (count_tally o).scopes) None None tt tt;
   }
 
-  gone_orderly : (k : ℕ) (r : FourRecorders) (b : FourBooks) (n m : ℕ) → OrderlyRecorders k r → OrderlyRecorders (k + 1) (four_recording.gone o r b n m)
+  gone_orderly : (k : ℕ) (r : FourRecorders) (b : FourBooks) (n m : ℕ) → OrderlyRecorders k r
+      → OrderlyRecorders (k + 1) (four_recording.gone o r b n m)
   gone_orderly k r b n m is = record {
     totals = all_set (IsOrderly (k + 1)) r.first.first m (one_more (span_at r.first.first m)) (0, 0) (one_later k (span_at r.first.first m) (is.totals m)) (λ i. weaker k (k + 1) (span_at r.first.first i) (omega arith) (is.totals i));
     loops = spans_step k o b.first.second.tally r.first.second n m is.loops;
     counts = spans_step k o b.second.first.tally r.second.first n m is.counts;
   }
 
-  kept_orderly : (k : ℕ) (r : FourRecorders) (b : FourBooks) (n m : ℕ) → OrderlyRecorders k r → OrderlyBooks k b → OrderlyBooks k (four_recording.gone_book o r b n m)
+  kept_orderly : (k : ℕ) (r : FourRecorders) (b : FourBooks) (n m : ℕ) → OrderlyRecorders k r → OrderlyBooks k b
+      → OrderlyBooks k (four_recording.gone_book o r b n m)
   kept_orderly k r b n m is old = record {
     totals = old.totals;
     loops = spreads_step k o b.first.second.tally r.first.second b.first.second.spreads n m is.loops old.loops;
     counts = spreads_step k o b.second.first.tally r.second.first b.second.first.spreads n m is.counts old.counts;
   }
 
-  finished_orderly : (k : ℕ) (r : FourRecorders) (b : FourBooks) (n : ℕ) → OrderlyRecorders k r → OrderlyBooks k b → OrderlyBooks k (four_recording.finished o r b n)
+  finished_orderly : (k : ℕ) (r : FourRecorders) (b : FourBooks) (n : ℕ) → OrderlyRecorders k r → OrderlyBooks k b
+      → OrderlyBooks k (four_recording.finished o r b n)
   finished_orderly k r b n is old = record {
     totals = all_generated (IsOrderlySpread k) (length b.first.first) (λ i. collected (spread_at b.first.first i) (span_at r.first.first i)) None
         (λ i. collects k (spread_at b.first.first i) (span_at r.first.first i) (old.totals i) (is.totals i)) tt;
@@ -150,14 +161,17 @@ module _ (o : Outlined) where
 
   -- ---- one successor, and all of them
 
-  after_orderly : {T : Type 0} (k : ℕ) (r : FourRecorders) (n : ℕ) (b : FourBooks) (s : ℕ × T) → OrderlyRecorders k r → OrderlyBooks k b → OrderlyBooks k (book_after four_recording o r n b s)
+  after_orderly : {T : Type 0} (k : ℕ) (r : FourRecorders) (n : ℕ) (b : FourBooks) (s : ℕ × T) → OrderlyRecorders k r
+      → OrderlyBooks k b → OrderlyBooks k (book_after four_recording o r n b s)
   after_orderly k r n b s is old = by_end (s.0 == length o.nodes)
     where
-      by_end : (v : Bool) → OrderlyBooks k (cond v (four_recording.finished o r b n) (four_recording.gone_book o r b n s.0))
+      by_end : (v : Bool)
+          → OrderlyBooks k (cond v (four_recording.finished o r b n) (four_recording.gone_book o r b n s.0))
       by_end true = finished_orderly k r b n is old
       by_end false = kept_orderly k r b n s.0 is old
 
-  spread_orderly : {T : Type 0} (k : ℕ) (r : FourRecorders) (n : ℕ) (next : List (ℕ × T)) (b : FourBooks) → OrderlyRecorders k r → OrderlyBooks k b → OrderlyBooks k (spread_book four_recording o r n b next)
+  spread_orderly : {T : Type 0} (k : ℕ) (r : FourRecorders) (n : ℕ) (next : List (ℕ × T)) (b : FourBooks)
+      → OrderlyRecorders k r → OrderlyBooks k b → OrderlyBooks k (spread_book four_recording o r n b next)
   spread_orderly k r n [] b is old = old
   spread_orderly k r n (s ∷ next) b is old = spread_orderly k r n next (book_after four_recording o r n b s) is (after_orderly k r n b s is old)
 
@@ -170,7 +184,8 @@ module _ (o : Outlined) where
         | inr later ↦ spots_orderly k position r n next (book_after four_recording o r n b s) is spot later
       ]
     where
-      by_end : (v : Bool) → Contains (cond v [] (next_spot four_recording o position r n b s ∷ [])) spot → OrderlyRecorders (k + 1) spot.recorder
+      by_end : (v : Bool) → Contains (cond v [] (next_spot four_recording o position r n b s ∷ [])) spot
+          → OrderlyRecorders (k + 1) spot.recorder
       by_end true there = no_member spot there
       by_end false there =
           first_or_further (next_spot four_recording o position r n b s) [] spot there
@@ -179,7 +194,8 @@ module _ (o : Outlined) where
 
 -- ---- pools
 
-joined_orderly : (k : ℕ) (r s : FourRecorders) → OrderlyRecorders k r → OrderlyRecorders k s → OrderlyRecorders k (four_order.joined r s)
+joined_orderly : (k : ℕ) (r s : FourRecorders) → OrderlyRecorders k r → OrderlyRecorders k s
+    → OrderlyRecorders k (four_order.joined r s)
 joined_orderly k r s first second = record {
   totals = spans_joined k r.first.first s.first.first first.totals second.totals;
   loops = spans_joined k r.first.second s.first.second first.loops second.loops;
@@ -214,7 +230,8 @@ module _ {S T C : Type 0} (machine : S → Machine T C) (states : Order T) where
         books = empty_orderly o;
       }
 
-  step_orderly : (w : Pooled S T FourRecorders FourBooks) (i : ℕ) (spot : Spot T FourRecorders) → slice_get w.spots i ≡ Some spot → OrderlyPool w → OrderlyPool (stepped_at machine four_recording w i spot)
+  step_orderly : (w : Pooled S T FourRecorders FourBooks) (i : ℕ) (spot : Spot T FourRecorders)
+      → slice_get w.spots i ≡ Some spot → OrderlyPool w → OrderlyPool (stepped_at machine four_recording w i spot)
   step_orderly w i spot at is =
       let k = w.steps in
       let o = w.outline in
@@ -234,11 +251,14 @@ module _ {S T C : Type 0} (machine : S → Machine T C) (states : Order T) where
         books = spread_orderly o (k + 1) r n next b mine told;
       }
     where
-      by_faults : (o : Outlined) (k : ℕ) (r : FourRecorders) (n : ℕ) (b : FourBooks) (v : Bool) → OrderlyRecorders k r → OrderlyBooks k b → OrderlyBooks k (cond v (four_recording.finished o r b n) b)
+      by_faults : (o : Outlined) (k : ℕ) (r : FourRecorders) (n : ℕ) (b : FourBooks) (v : Bool) → OrderlyRecorders k r
+          → OrderlyBooks k b → OrderlyBooks k (cond v (four_recording.finished o r b n) b)
       by_faults o k r n b true mine old = finished_orderly o k r b n mine old
       by_faults o k r n b false mine old = old
 
-  merge_orderly : (w : Pooled S T FourRecorders FourBooks) (i j : ℕ) (a b : Spot T FourRecorders) → slice_get w.spots i ≡ Some a → slice_get w.spots j ≡ Some b → OrderlyPool w → OrderlyPool (merged_at states four_order w i j a b)
+  merge_orderly : (w : Pooled S T FourRecorders FourBooks) (i j : ℕ) (a b : Spot T FourRecorders)
+      → slice_get w.spots i ≡ Some a → slice_get w.spots j ≡ Some b → OrderlyPool w
+      → OrderlyPool (merged_at states four_order w i j a b)
   merge_orderly w i j a b first second is =
       let joined = met states four_order a b in
       record {
@@ -250,14 +270,18 @@ module _ {S T C : Type 0} (machine : S → Machine T C) (states : Order T) where
         books = is.books;
       }
 
-  event_orderly : (old new : Pooled S T FourRecorders FourBooks) (event : Event) → Happens machine states four_order four_recording old event new → OrderlyPool old → OrderlyPool new
+  event_orderly : (old new : Pooled S T FourRecorders FourBooks) (event : Event)
+      → Happens machine states four_order four_recording old event new → OrderlyPool old → OrderlyPool new
   event_orderly old new (Step i) (spot, found, is) orderly = subst (λ (w : Pooled S T FourRecorders FourBooks). OrderlyPool w) (sym is) (step_orderly old i spot found orderly)
   event_orderly old new (Merge i j) (a, b, before, first, second, same, is) orderly = subst (λ (w : Pooled S T FourRecorders FourBooks). OrderlyPool w) (sym is) (merge_orderly old i j a b first second orderly)
 
-  events_orderly : (events : List Event) (old new : Pooled S T FourRecorders FourBooks) → HappenAll machine states four_order four_recording old events new → OrderlyPool old → OrderlyPool new
+  events_orderly : (events : List Event) (old new : Pooled S T FourRecorders FourBooks)
+      → HappenAll machine states four_order four_recording old events new → OrderlyPool old → OrderlyPool new
   events_orderly [] old new is orderly = subst (λ (w : Pooled S T FourRecorders FourBooks). OrderlyPool w) (sym is) orderly
   events_orderly (event ∷ events) old new (mid, happens, rest) orderly = events_orderly events mid new rest (event_orderly old mid event happens orderly)
 
   -- so it is of each pool that events led to
-  pub orderly_events : (events : List Event) (stepper : S) (o : Outlined) (w : Pooled S T FourRecorders FourBooks) → HappenAll machine states four_order four_recording (opened machine four_recording stepper o) events w → OrderlyBooks w.steps w.book
+  pub orderly_events : (events : List Event) (stepper : S) (o : Outlined) (w : Pooled S T FourRecorders FourBooks)
+      → HappenAll machine states four_order four_recording (opened machine four_recording stepper o) events w
+      → OrderlyBooks w.steps w.book
   orderly_events events stepper o w happen = (events_orderly events (opened machine four_recording stepper o) w happen (start_orderly stepper o)).books

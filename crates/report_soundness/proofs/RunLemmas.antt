@@ -16,7 +16,8 @@ use Rattle.report_soundness.specs.RunLaws.{IsAboveRuns}
 -- ---- the count bound
 
 -- what is at most the sum over the openings is at most the count bound
-pub bound_within : (o : Outlined) (found : Found) (v : ℕ) → pos v ≤ℤ opening_sum o (told_facts o found) → v ≤ count_bound o found
+pub bound_within : (o : Outlined) (found : Found) (v : ℕ) → pos v ≤ℤ opening_sum o (told_facts o found)
+    → v ≤ count_bound o found
 bound_within o found v most = let within = told_within o found in omega (arith, ints, most, within)
 
 -- and where the report tells one run exactly, it is the run's cost

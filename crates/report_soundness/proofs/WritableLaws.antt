@@ -29,7 +29,8 @@ module _ (o : Outlined) (found : Found) (k : ℕ) (orderly : AreOrderly k found.
   greatest_low : (n : ℕ) → greatest_total found n ≤ k
   greatest_low n = by_stepped (is_stepped found n) (spread_at found.books.totals n) (orderly.totals n)
     where
-      by_stepped : (v : Bool) (t : Option (ℕ × ℕ)) → IsOrderlySpread k t → cond v (option_map_or (λ span. span.1) t 0) 0 ≤ k
+      by_stepped : (v : Bool) (t : Option (ℕ × ℕ)) → IsOrderlySpread k t
+          → cond v (option_map_or (λ span. span.1) t 0) 0 ≤ k
       by_stepped false t is = omega arith
       by_stepped true None is = omega arith
       by_stepped true (Some s) is = is.1
@@ -56,7 +57,8 @@ module _ (o : Outlined) (found : Found) (k : ℕ) (orderly : AreOrderly k found.
 
   -- ---- what is told of facts
 
-  span_fits : (t : Option (ℕ × ℕ)) (low high : ℕ) → IsOrderlySpread k t → t ≡ Some (low, high) → (low ≤ high) × (high ≤ k)
+  span_fits : (t : Option (ℕ × ℕ)) (low high : ℕ) → IsOrderlySpread k t → t ≡ Some (low, high)
+      → (low ≤ high) × (high ≤ k)
   span_fits t low high is there = subst (λ (u : Option (ℕ × ℕ)). IsOrderlySpread k u) there is
 
   module _ (ok : IsOutline (shape_of o)) (small : k < 2 ^ 32) where
@@ -69,7 +71,8 @@ module _ (o : Outlined) (found : Found) (k : ℕ) (orderly : AreOrderly k found.
     scope_fits : (s : ℕ) → s < length o.scopes → IsNumber s
     scope_fits s low = let few = ok.few_scopes in omega (arith, low, few)
 
-    span_writable : (t : Option (ℕ × ℕ)) (low high : ℕ) → IsOrderlySpread k t → t ≡ Some (low, high) → (low ≤ high) × IsNumber high
+    span_writable : (t : Option (ℕ × ℕ)) (low high : ℕ) → IsOrderlySpread k t → t ≡ Some (low, high)
+        → (low ≤ high) × IsNumber high
     span_writable t low high is there = let fits = span_fits t low high is there in let most = fits.1 in (fits.0, omega (arith, most, small))
 
     line_writable : (fact : Fact) → IsLine o found fact → FactIsWritable 2 fact
@@ -87,7 +90,8 @@ module _ (o : Outlined) (found : Found) (k : ℕ) (orderly : AreOrderly k found.
     line_writable (Alarm n fault) is = node_fits n is.0
 
     module _ (costs : CostsFit o) (names : All (λ row. IsNodeName row.name.items) o.nodes) where
-      node_writable : (row : NodeRow) → Contains o.nodes row → NodeIsWritable (record { scope = row.scope; cost = row.cost; name = row.name.items })
+      node_writable : (row : NodeRow) → Contains o.nodes row
+          → NodeIsWritable (record { scope = row.scope; cost = row.cost; name = row.name.items })
       node_writable row there =
           let n = there.0 in
           let scope_is : slice_index (shape_of o).own n ≡ row.scope = get_or-map (λ (r : NodeRow). r.scope) o.nodes n row 0 there.1 ∙ ap (λ (r : NodeRow). r.scope) there.2 in
@@ -139,7 +143,8 @@ module _ (o : Outlined) (found : Found) (k : ℕ) (orderly : AreOrderly k found.
           named row = record { scope = row.scope; cost = row.cost; name = row.name.items }
 
 -- and so it is where nodes times steps are few
-pub few_writable : (o : Outlined) (found : Found) (k : ℕ) → IsOutline (shape_of o) → CostsFit o → All (λ row. IsNodeName row.name.items) o.nodes → AreOrderly k found.books → length o.nodes * k ≤ 2 ^ 31
+pub few_writable : (o : Outlined) (found : Found) (k : ℕ) → IsOutline (shape_of o) → CostsFit o
+    → All (λ row. IsNodeName row.name.items) o.nodes → AreOrderly k found.books → length o.nodes * k ≤ 2 ^ 31
     → IsWritable (told_report o found)
 few_writable o found k ok costs names orderly few =
     let own : length (shape_of o).own ≡ length o.nodes = length-map o.nodes (λ row. row.scope) in

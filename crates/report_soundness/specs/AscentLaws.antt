@@ -44,7 +44,8 @@ ascends-append (x ∷ xs) ys first second between = (
   ascends-append xs ys first.1 second (λ f g left right. between f g (further_member x xs f left) right),
 )
 
-ascends_below : (f : ℕ → List Fact) (k : ℕ) → ((n : ℕ) → n < k → Ascends (f n)) → ((m n : ℕ) → m < n → AllBefore (f m) (f n)) → Ascends (below f k)
+ascends_below : (f : ℕ → List Fact) (k : ℕ) → ((n : ℕ) → n < k → Ascends (f n))
+    → ((m n : ℕ) → m < n → AllBefore (f m) (f n)) → Ascends (below f k)
 ascends_below f zero each between = tt
 ascends_below f (suc k) each between =
     ascends-append (below f k) (f k) (ascends_below f k (λ n low. each n (omega arith)) between) (each k (omega arith))
@@ -132,7 +133,8 @@ module _ (o : Outlined) (found : Found) where
   below_kind : (k : ℕ) (f : ℕ → List Fact) (n : ℕ) → ((m : ℕ) → OfKind k (f m)) → OfKind k (below f n)
   below_kind k f n each fact there = let m = from_below f n fact there in each m.0 fact m.2
 
-  loop_of : (s : ℕ) (fact : Fact) → Contains (loop_lines o found s) fact → OfSpan (λ low high. Loop s low high) (spread_at found.books.loops.spreads s) fact
+  loop_of : (s : ℕ) (fact : Fact) → Contains (loop_lines o found s) fact
+      → OfSpan (λ low high. Loop s low high) (spread_at found.books.loops.spreads s) fact
   loop_of s fact there = from_span (λ low high. Loop s low high) (spread_at found.books.loops.spreads s) fact (from_if (is_loop (kind_of o.scopes s)) (span_lines (λ low high. Loop s low high) (spread_at found.books.loops.spreads s)) fact there).1
 
   loops_ascend : Ascends (below (loop_lines o found) (length o.scopes))
@@ -143,7 +145,8 @@ module _ (o : Outlined) (found : Found) where
       let g = loop_of t y second in
       before_as (Loop s f.low f.high) (Loop t g.low g.high) x y f.is g.is (loop_before s t f.low f.high g.low g.high less))
 
-  count_of : (s n : ℕ) (fact : Fact) → Contains (count_line o found s n) fact → OfSpan (λ low high. Count s n low high) (spread_at found.books.counts.spreads n) fact
+  count_of : (s n : ℕ) (fact : Fact) → Contains (count_line o found s n) fact
+      → OfSpan (λ low high. Count s n low high) (spread_at found.books.counts.spreads n) fact
   count_of s n fact there =
       from_span (λ low high. Count s n low high) (spread_at found.books.counts.spreads n) fact
       (from_if (is_stepped found n && (is_counted (shape_of o) n && (own_of (shape_of o) n == s))) (span_lines (λ low high. Count s n low high) (spread_at found.books.counts.spreads n)) fact there).1
@@ -172,7 +175,8 @@ module _ (o : Outlined) (found : Found) where
       (λ n low. unless_ascends (is_stepped found n) (Dead n))
       (λ m n less x y first second. before_as (Dead m) (Dead n) x y (dead_of m x first) (dead_of n y second) (dead_before m n less))
 
-  total_of : (n : ℕ) (fact : Fact) → Contains (total_lines found n) fact → OfSpan (λ low high. Total n low high) (spread_at found.books.totals n) fact
+  total_of : (n : ℕ) (fact : Fact) → Contains (total_lines found n) fact
+      → OfSpan (λ low high. Total n low high) (spread_at found.books.totals n) fact
   total_of n fact there = from_span (λ low high. Total n low high) (spread_at found.books.totals n) fact (from_if (is_stepped found n) (span_lines (λ low high. Total n low high) (spread_at found.books.totals n)) fact there).1
 
   totals_ascend : Ascends (below (total_lines found) (length o.nodes))
@@ -218,7 +222,8 @@ module _ (o : Outlined) (found : Found) where
   CodesAscend (k ∷ []) = Unit {0}
   CodesAscend (k ∷ l ∷ faults) = (fault_code k < fault_code l) × CodesAscend (l ∷ faults)
 
-  later_code : (k : RunFault) (faults : List RunFault) → CodesAscend (k ∷ faults) → (l : RunFault) → Contains faults l → fault_code k < fault_code l
+  later_code : (k : RunFault) (faults : List RunFault) → CodesAscend (k ∷ faults) → (l : RunFault) → Contains faults l
+      → fault_code k < fault_code l
   later_code k [] up l there = no_member l there
   later_code k (m ∷ faults) up l there =
       first_or_further m faults l there
@@ -229,13 +234,17 @@ module _ (o : Outlined) (found : Found) where
   rest_ascends k [] up = tt
   rest_ascends k (l ∷ faults) up = up.1
 
-  alarm_of : (set : FaultSet) (n : ℕ) (fault : RunFault) (fact : Fact) → Contains (alarm_line set n fault) fact → Alarm n fault ≡ fact
+  alarm_of : (set : FaultSet) (n : ℕ) (fault : RunFault) (fact : Fact) → Contains (alarm_line set n fault) fact
+      → Alarm n fault ≡ fact
   alarm_of set n fault fact there = only_member (Alarm n fault) fact (from_if (has_fault set fault) (Alarm n fault ∷ []) fact there).1
 
-  alarm_among : (set : FaultSet) (n : ℕ) (faults : List RunFault) (fact : Fact) → Contains (flat_map (alarm_line set n) faults) fact → (fault : RunFault) × Contains faults fault × (Alarm n fault ≡ fact)
+  alarm_among : (set : FaultSet) (n : ℕ) (faults : List RunFault) (fact : Fact)
+      → Contains (flat_map (alarm_line set n) faults) fact
+      → (fault : RunFault) × Contains faults fault × (Alarm n fault ≡ fact)
   alarm_among set n faults fact there = let m = from_joined (alarm_line set n) faults fact there in (m.0, m.1, alarm_of set n m.0 fact m.2)
 
-  faults_ascend : (set : FaultSet) (n : ℕ) (faults : List RunFault) → CodesAscend faults → Ascends (flat_map (alarm_line set n) faults)
+  faults_ascend : (set : FaultSet) (n : ℕ) (faults : List RunFault) → CodesAscend faults
+      → Ascends (flat_map (alarm_line set n) faults)
   faults_ascend set n [] up = tt
   faults_ascend set n (k ∷ faults) up =
       ascends-append (alarm_line set n k) (flat_map (alarm_line set n) faults)
@@ -259,7 +268,8 @@ module _ (o : Outlined) (found : Found) where
   -- ---- one kind after another
 
   -- lists of one kind each, where the first kind comes earlier
-  kinds_before : (j k : ℕ) (xs ys : List Fact) → OfKind j xs → ((f : Fact) → Contains ys f → k ≤ kind_place f) → j < k → AllBefore xs ys
+  kinds_before : (j k : ℕ) (xs ys : List Fact) → OfKind j xs → ((f : Fact) → Contains ys f → k ≤ kind_place f) → j < k
+      → AllBefore xs ys
   kinds_before j k xs ys first second less f g left right = let a = first f left in let b = second g right in by_kind f g (omega arith)
 
   abbrev OfKindFrom : ℕ → List Fact → Type 0
@@ -272,7 +282,8 @@ module _ (o : Outlined) (found : Found) where
         | inr right ↦ let b = second f right in omega arith
       ]
 
-  next_kind : (k : ℕ) (xs ys : List Fact) → OfKind k xs → OfKindFrom (k + 1) ys → Ascends xs → Ascends ys → Ascends (xs ++ ys)
+  next_kind : (k : ℕ) (xs ys : List Fact) → OfKind k xs → OfKindFrom (k + 1) ys → Ascends xs → Ascends ys
+      → Ascends (xs ++ ys)
   next_kind k xs ys first second up more = ascends-append xs ys up more (kinds_before k (k + 1) xs ys first second (omega arith))
 
   loops_kind : OfKind 0 (below (loop_lines o found) (length o.scopes))

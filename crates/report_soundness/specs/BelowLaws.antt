@@ -54,7 +54,8 @@ module _ {A : Type 0} where
 
 -- ---- spans
 
-pub in_span : (line : ℕ → ℕ → Fact) (spread : Option (ℕ × ℕ)) (low high : ℕ) → spread ≡ Some (low, high) → Contains (span_lines line spread) (line low high)
+pub in_span : (line : ℕ → ℕ → Fact) (spread : Option (ℕ × ℕ)) (low high : ℕ) → spread ≡ Some (low, high)
+    → Contains (span_lines line spread) (line low high)
 in_span line spread low high is = subst (λ (t : Option (ℕ × ℕ)). Contains (span_lines line t) (line low high)) (sym is) (first_member (line low high) [])
 
 -- a line is that of a span
@@ -64,7 +65,8 @@ pub record OfSpan (line : ℕ → ℕ → Fact) (spread : Option (ℕ × ℕ)) (
   pub span : spread ≡ Some (low, high)
   pub is : line low high ≡ fact
 
-pub from_span : (line : ℕ → ℕ → Fact) (spread : Option (ℕ × ℕ)) (fact : Fact) → Contains (span_lines line spread) fact → OfSpan line spread fact
+pub from_span : (line : ℕ → ℕ → Fact) (spread : Option (ℕ × ℕ)) (fact : Fact) → Contains (span_lines line spread) fact
+    → OfSpan line spread fact
 from_span line None fact there = no_member fact there
 from_span line (Some s) fact there = record { low = s.0; high = s.1; span = refl; is = only_member (line s.0 s.1) fact there }
 

@@ -46,8 +46,8 @@ pub record AreApart (o : Outlined) (pairs : PairBook) (s a b : ℕ) : Type 0 whe
   pub other_own : own_of (shape_of o) b ≡ s
   pub apart : together pairs a b ≡ false
 
--- the fact is one that the books tell: a loop or a count has the span of its executions, a total that of the runs, and a
--- node is dead where its greatest total is 0
+-- the fact is one that the books tell: a loop or a count has the span of its executions, a total that of the runs, and
+-- a node is dead where its greatest total is 0
 abbrev pub Tells : Outlined → Books → Fact → Type 0
 Tells o books (Loop s low high) = IsSpan books.loops.spreads (length o.scopes) s low high
 Tells o books (Count s n low high) = IsSpan books.counts.spreads (length o.nodes) n low high × IsCountedIn o s n

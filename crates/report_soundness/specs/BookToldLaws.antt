@@ -25,7 +25,8 @@ places_are_visits n (m ∷ nodes) =
     let one : places n (m ∷ nodes) ≡ cond (n == m) 1 0 + places n nodes = sum_by-cons (λ k. cond (n == k) 1 0) m nodes in
     one ∙ by_hit (n == m) rest
   where
-    by_hit : (hit : Bool) → places n nodes ≡ visits n nodes → cond hit 1 0 + places n nodes ≡ cond hit (visits n nodes + 1) (visits n nodes)
+    by_hit : (hit : Bool) → places n nodes ≡ visits n nodes
+        → cond hit 1 0 + places n nodes ≡ cond hit (visits n nodes + 1) (visits n nodes)
     by_hit true rest = omega (arith, rest)
     by_hit false rest = omega (arith, rest)
 
@@ -44,7 +45,8 @@ turned n (m ∷ nodes) =
     ∙ omega (arith, rest, back, front, one, last, none)
 
 -- a count that the span bounds
-between : (spread : Option (ℕ × ℕ)) (c low high : ℕ) → spread ≡ Some (low, high) → Bounds spread c → IsBetween low high c
+between : (spread : Option (ℕ × ℕ)) (c low high : ℕ) → spread ≡ Some (low, high) → Bounds spread c
+    → IsBetween low high c
 between spread c low high is bounds =
     let same : Some bounds.span ≡ Some (low, high) = sym bounds.is ∙ is in
     let first : bounds.span ≡ (low, high) = cc in
@@ -52,7 +54,8 @@ between spread c low high is bounds =
 
 module _ (o : Outlined) (ok : IsOutline (shape_of o)) (books : Books) (past : List ℕ) (sums : SumUp o books past) where
   -- an execution in its order, as one with the newest node first
-  ordered : (s : ℕ) (execution : List ℕ) → IsExecution (shape_of o) s (reverse past) execution → IsExecution (shape_of o) s (reverse past) (reverse (reverse execution))
+  ordered : (s : ℕ) (execution : List ℕ) → IsExecution (shape_of o) s (reverse past) execution
+      → IsExecution (shape_of o) s (reverse past) (reverse (reverse execution))
   ordered s execution is = subst (λ (e : List ℕ). IsExecution (shape_of o) s (reverse past) e) (sym (reverse-reverse execution)) is
 
   same_places : (n : ℕ) (execution : List ℕ) → places n execution ≡ visits n (reverse execution)

@@ -103,6 +103,7 @@ module _ (o : Outlined) (found : Found) where
   pub summed_totals : (past : List ℕ) → SumUp o found.books past → HaveTotals o found
   summed_totals past sums n below stepped = by_spread (spread_at found.books.totals n) refl (sums.totals n below)
     where
-      by_spread : (t : Option (ℕ × ℕ)) → spread_at found.books.totals n ≡ t → IsWider (Some (visits n past, visits n past)) t → IsTotalOf found n
+      by_spread : (t : Option (ℕ × ℕ)) → spread_at found.books.totals n ≡ t
+          → IsWider (Some (visits n past, visits n past)) t → IsTotalOf found n
       by_spread None is wider = absurd wider
       by_spread (Some span) is wider = record { low = span.0; high = span.1; span = is }

@@ -51,7 +51,8 @@ module _ (o : Outlined) (report : Reported) (is : IsTold o report) where
   pub bound_most : (v : ℕ) → pos v ≤ℤ opening_sum o report.facts → v ≤ report.count_bound
   bound_most v low = let most = openings_low in omega (arith, ints, most, low)
 
-  path_sound : {T C : Type 0} (m : Machine T C) (b : ℕ × BoundWord) → IsAlong T C (shape_of o) m → IsSound m.system o report → IsAbove o report.facts b.0
+  path_sound : {T C : Type 0} (m : Machine T C) (b : ℕ × BoundWord) → IsAlong T C (shape_of o) m
+      → IsSound m.system o report → IsAbove o report.facts b.0
       → IsPathSound m.system o (with_path_bound report b)
   path_sound m b along sound above = record {
     ends = sound.ends;
@@ -77,7 +78,8 @@ sound_runs system o report sound run is =
     record { start = ended.start; starts = ended.starts; trace = ended.trace; fault = ended.fault; passes = ended.passes }
 
 -- where no place is left and some run ends, of each node that was stepped some total was collected
-pub kept_totals : {S T C : Type 0} (machine : S → Machine T C) (w : Pooled S T FourRecorders FourBooks) → IsKept machine four_recording w → w.spots ≡ []
+pub kept_totals : {S T C : Type 0} (machine : S → Machine T C) (w : Pooled S T FourRecorders FourBooks)
+    → IsKept machine four_recording w → w.spots ≡ []
     → HasRun (machine w.stepper).system → HaveTotals w.outline (found_of w)
 kept_totals machine w kept empty run =
     let is = (each_is_summed machine four_recording w kept.handled empty).right run.start run.trace run.fault run.starts run.passes in
@@ -106,12 +108,14 @@ events_told machine states events stepper o w states_laws machine_laws stepper_k
 
 -- ---- the count bound
 
-on_bound : (P Q R : ℕ × BoundWord → Type 0) (t : Option (ℕ × BoundWord)) → ((b : ℕ × BoundWord) → P b → Q b → R b) → IsOf P t → IsOf Q t → IsOf R t
+on_bound : (P Q R : ℕ × BoundWord → Type 0) (t : Option (ℕ × BoundWord)) → ((b : ℕ × BoundWord) → P b → Q b → R b)
+    → IsOf P t → IsOf Q t → IsOf R t
 on_bound P Q R None each first second = absurd first
 on_bound P Q R (Some b) each first second = each b first second
 
 -- where some run costs the count bound, the path bound is the count bound
-pub run_at_bound : {C : Type 0} (system : System C) (o : Outlined) (report : Reported) → IsPathSound system o report → IsWithinCount report
+pub run_at_bound : {C : Type 0} (system : System C) (o : Outlined) (report : Reported) → IsPathSound system o report
+    → IsWithinCount report
     → (c : C) (trace : List ℕ) (fault : Option RunFault) → system.starts c → Passes system 0 c trace fault → run_cost (costs_of o) trace ≡ report.count_bound
     → HasPathBound (λ b. b.0 ≡ report.count_bound) report
 run_at_bound system o report sound within c trace fault starts passes cost =

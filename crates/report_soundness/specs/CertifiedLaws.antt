@@ -5,7 +5,8 @@ use Rattle.flow_facts.specs.Writable.{CertificateIsWritable, IsWritable}
 use Rattle.report_soundness.specs.Certified.{with_certificate}
 
 -- where some text spells the report, and the certificate's numbers fit, some text spells it with the certificate
-pub certificate_writable : (report : Reported) (cert : Certificate) → IsWritable report → CertificateIsWritable cert → IsWritable (with_certificate report cert)
+pub certificate_writable : (report : Reported) (cert : Certificate) → IsWritable report → CertificateIsWritable cert
+    → IsWritable (with_certificate report cert)
 certificate_writable report cert is fits = record {
   form = is.form;
   few_nodes = is.few_nodes;

@@ -25,7 +25,8 @@ use Rattle.report_soundness.specs.ReportTold.{FourRecorders, FourBooks, four_rec
 use Rattle.report_soundness.specs.Runs.{HasAlarm, IsRightOf, IsSound}
 
 -- the nodes of a trace are those of the outline
-pub trace_low : (o : Shape) → IsOutline o → (past : List ℕ) → IsTrace o past → (n : ℕ) → Contains past n → n < length o.own
+pub trace_low : (o : Shape) → IsOutline o → (past : List ℕ) → IsTrace o past → (n : ℕ) → Contains past n
+    → n < length o.own
 trace_low o ok [] walk n there = no_member n there
 trace_low o ok (m ∷ []) walk n there = first_or_further m [] n there (λ same. let some = ok.some in omega (arith, same, walk, some)) (λ none. no_member n none)
 trace_low o ok (m ∷ k ∷ past) walk n there =
@@ -44,24 +45,28 @@ pub record SummedUp (o : Outlined) (found : Found) (past : List ℕ) : Type 0 wh
 
 -- ---- runs that were collected
 
--- each run that was collected meets each fact and costs no more than the count bound, and faults that were told have alarms
+-- each run that was collected meets each fact and costs no more than the count bound, and faults that were told have
+-- alarms
 pub record HoldsOfCollected (o : Outlined) (found : Found) (report : Reported) : Type 0 where
   pub facts : (past : List ℕ) → SummedUp o found past → All (Meets (shape_of o) (reverse past)) report.facts
   pub bound : (past : List ℕ) → SummedUp o found past → run_cost (costs_of o) (reverse past) ≤ report.count_bound
-  pub alarms : (n : ℕ) (fault : RunFault) → n < length o.nodes → has_fault (alarm_at found.alarms n) fault ≡ true → Contains report.facts (Alarm n fault)
+  pub alarms : (n : ℕ) (fault : RunFault) → n < length o.nodes → has_fault (alarm_at found.alarms n) fault ≡ true
+      → Contains report.facts (Alarm n fault)
 
 summed_up : (o : Outlined) (book : FourBooks) (past : List ℕ) → four_recording.sums_up o book past → SumUp o (record { totals = book.first.first; loops = book.first.second; counts = book.second.first; pairs = book.second.second }) past
 summed_up o book past sums = record { totals = sums.0.0; loops = sums.0.1; counts = sums.1.0; pairs = sums.1.1 }
 
 -- a fault that was told at the last node has an alarm there
-has_alarm_at : (o : Outlined) (found : Found) (report : Reported) → HoldsOfCollected o found report → (past trace : List ℕ) (n : ℕ) (fault : Option RunFault)
+has_alarm_at : (o : Outlined) (found : Found) (report : Reported) → HoldsOfCollected o found report
+    → (past trace : List ℕ) (n : ℕ) (fault : Option RunFault)
     → n < length o.nodes → reverse (n ∷ past) ≡ trace → FaultIsTold found.alarms n fault → HasAlarm report.facts trace fault
 has_alarm_at o found report holds past trace n None low turned told = tt
 has_alarm_at o found report holds past trace n (Some kind) low turned told =
     record { before = reverse past; node = n; last = sym turned ∙ reverse-append (n ∷ []) past; among = holds.alarms n kind low told }
 
 -- the report is right of a run that was summed up
-right_of : {S T : Type 0} (w : Pooled S T FourRecorders FourBooks) (report : Reported) → IsOutline (shape_of w.outline) → HoldsOfCollected w.outline (found_of w) report
+right_of : {S T : Type 0} (w : Pooled S T FourRecorders FourBooks) (report : Reported) → IsOutline (shape_of w.outline)
+    → HoldsOfCollected w.outline (found_of w) report
     → (trace : List ℕ) (fault : Option RunFault) → IsSummed four_recording w trace fault → IsRightOf w.outline report trace fault
 right_of w report ok holds trace fault is =
     let nodes : List ℕ = is.last ∷ is.past in

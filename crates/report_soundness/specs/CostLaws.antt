@@ -12,7 +12,8 @@ use Rattle.report_soundness.specs.ReportTold.{sum_below}
 use Rattle.report_soundness.specs.BelowLaws.{sum_same, sum_both, sum_none, sum_one}
 
 -- one visit more of the node m
-more_visits : (c : ℕ → ℕ) (m : ℕ) (nodes : List ℕ) (n : ℕ) → c n * visits n (m ∷ nodes) ≡ c n * visits n nodes + cond (n == m) (c m) 0
+more_visits : (c : ℕ → ℕ) (m : ℕ) (nodes : List ℕ) (n : ℕ)
+    → c n * visits n (m ∷ nodes) ≡ c n * visits n nodes + cond (n == m) (c m) 0
 more_visits c m nodes n = by_test (n == m)
     (λ hit. let same : n ≡ m = eqb-true n m hit in
     ap (λ (v : Bool). c n * cond v (visits n nodes + 1) (visits n nodes)) hit ∙ times_more (c n) (visits n nodes) ∙ ap (λ (k : ℕ). c n * visits n nodes + k) (ap c same)
@@ -27,7 +28,8 @@ more_visits c m nodes n = by_test (n == m)
     no_more a = omega arith
 
 -- a run costs each node's cost times its visits, added up
-pub cost_is : (costs nodes : List ℕ) (k : ℕ) → ((n : ℕ) → Contains nodes n → n < k) → run_cost costs nodes ≡ sum_below (λ n. slice_index costs n * visits n nodes) k
+pub cost_is : (costs nodes : List ℕ) (k : ℕ) → ((n : ℕ) → Contains nodes n → n < k)
+    → run_cost costs nodes ≡ sum_below (λ n. slice_index costs n * visits n nodes) k
 cost_is costs [] k low =
     sym (sum_same (λ n. slice_index costs n * visits n []) (λ n. 0) k (λ n less. times_none (slice_index costs n)) ∙ sum_none k)
   where

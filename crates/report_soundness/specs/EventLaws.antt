@@ -51,14 +51,16 @@ pub record IsOfStart {S T R B : Type 0} (old new : Pooled S T R B) : Type 0 wher
   pub outline : new.outline ≡ old.outline
 
 module _ {S T C : Type 0} (machine : S → Machine T C) (states : Order T) where
-  pub events_one_on : (events : List Event) (old new : Pooled S T FourRecorders FourBooks) → HappenAll machine states four_order four_recording old events new → IsOfStart old new
+  pub events_one_on : (events : List Event) (old new : Pooled S T FourRecorders FourBooks)
+      → HappenAll machine states four_order four_recording old events new → IsOfStart old new
   events_one_on [] old new is = record { stepper = ap (λ w. w.stepper) is; outline = ap (λ w. w.outline) is }
   events_one_on (event ∷ events) old new (mid, happens, rest) =
       let first = event_one_on machine states four_order four_recording old mid event happens in
       let later = events_one_on events mid new rest in
       record { stepper = later.stepper ∙ first.stepper; outline = later.outline ∙ first.outline }
 
-  pub four_kept : (events : List Event) (stepper : S) (o : Outlined) (w : Pooled S T FourRecorders FourBooks) → IsOrder T states → ((s : S) → (machine s).kept → IsMachine T C states (machine s)) → (machine stepper).kept
+  pub four_kept : (events : List Event) (stepper : S) (o : Outlined) (w : Pooled S T FourRecorders FourBooks)
+      → IsOrder T states → ((s : S) → (machine s).kept → IsMachine T C states (machine s)) → (machine stepper).kept
       → IsOutline (shape_of o) → IsAlong T C (shape_of o) (machine stepper) → HappenAll machine states four_order four_recording (opened machine four_recording stepper o) events w → IsKept machine four_recording w
   four_kept events stepper o w states_laws machine_laws stepper_kept ok along happen =
       events_kept machine states four_order four_recording events (opened machine four_recording stepper o) w states_laws machine_laws four_is_order four_is_recording
@@ -66,7 +68,8 @@ module _ {S T C : Type 0} (machine : S → Machine T C) (states : Order T) where
       happen
 
   -- where no place is left, its report is sound
-  pub sound_events : (events : List Event) (stepper : S) (o : Outlined) (w : Pooled S T FourRecorders FourBooks) → IsOrder T states → ((s : S) → (machine s).kept → IsMachine T C states (machine s)) → (machine stepper).kept
+  pub sound_events : (events : List Event) (stepper : S) (o : Outlined) (w : Pooled S T FourRecorders FourBooks)
+      → IsOrder T states → ((s : S) → (machine s).kept → IsMachine T C states (machine s)) → (machine stepper).kept
       → IsOutline (shape_of o) → IsAlong T C (shape_of o) (machine stepper) → HappenAll machine states four_order four_recording (opened machine four_recording stepper o) events w → w.spots ≡ []
       → IsSound (machine stepper).system o (told_report o (found_of w))
   sound_events events stepper o w states_laws machine_laws stepper_kept ok along happen none =

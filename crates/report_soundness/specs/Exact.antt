@@ -40,12 +40,16 @@ IsLast trace n = (before : List ℕ) × (trace ≡ before ++ n ∷ [])
 -- the report tells the run's own numbers, and nothing else
 pub record IsExact (o : Outlined) (report : Reported) (trace : List ℕ) (fault : Option RunFault) : Type 0 where
   -- each node of the run has its own count twice, and the others are dead
-  pub totals : (n low high : ℕ) → Contains report.facts (Total n low high) ↔ (Contains trace n × (low ≡ places n trace) × (high ≡ places n trace))
+  pub totals : (n low high : ℕ)
+      → Contains report.facts (Total n low high) ↔ (Contains trace n × (low ≡ places n trace) × (high ≡ places n trace))
   pub deads : (n : ℕ) → Contains report.facts (Dead n) ↔ ((n < length o.nodes) × (places n trace ≡ 0))
-  -- each loop with an execution has the least and the greatest count of its header, and of its other nodes that are visited
+  -- each loop with an execution has the least and the greatest count of its header, and of its other nodes that are
+  -- visited
   pub loops : (s low high : ℕ) → Contains report.facts (Loop s low high)
       ↔ ((s < length o.scopes) × (is_loop (kind_of o.scopes s) ≡ true) × AreExtremes (shape_of o) s trace (places (header_of o.scopes s)) low high)
-  pub counts : (s n low high : ℕ) → Contains report.facts (Count s n low high) ↔ (Contains trace n × IsCountedIn o s n × AreExtremes (shape_of o) s trace (places n) low high)
+  pub counts : (s n low high : ℕ)
+      → Contains report.facts (Count s n low high)
+      ↔ (Contains trace n × IsCountedIn o s n × AreExtremes (shape_of o) s trace (places n) low high)
   pub pairs : (s a b : ℕ) → Contains report.facts (Pair s a b) ↔ IsLonePair (shape_of o) trace s a b
   -- the only alarm is the run's fault, and the bound its cost
   pub alarms : (n : ℕ) (kind : RunFault) → Contains report.facts (Alarm n kind) ↔ ((fault ≡ Some kind) × IsLast trace n)

@@ -55,7 +55,8 @@ pub record Alone (o : Outlined) (found : Found) (past : List ℕ) (n : ℕ) (fau
   pub flags : length found.stepped ≡ length o.nodes
   pub all : AllStepped found.stepped (n ∷ past)
   pub only : (k : ℕ) → slice_get found.stepped k ≡ Some true → Contains (n ∷ past) k
-  pub told : (k : ℕ) (kind : RunFault) → (has_fault (alarm_at found.alarms k) kind ≡ true) ↔ ((fault ≡ Some kind) × (k ≡ n))
+  pub told : (k : ℕ) (kind : RunFault)
+      → (has_fault (alarm_at found.alarms k) kind ≡ true) ↔ ((fault ≡ Some kind) × (k ≡ n))
 
 -- a node that is there has a visit
 some_visit : (n : ℕ) (nodes : List ℕ) → Contains nodes n → 0 < visits n nodes
@@ -74,7 +75,8 @@ span_is t low high v first second =
     let same : (low, high) ≡ (v, v) = same_Some (low, high) (v, v) (sym first ∙ second) in
     (ap (λ (s : ℕ × ℕ). s.0) same, ap (λ (s : ℕ × ℕ). s.1) same)
 
-summed_tally : (o : Shape) (w : Tally) (b : List (Option (ℕ × ℕ))) (past : List ℕ) → IsExactTally o w b past → IsSummed o w b past
+summed_tally : (o : Shape) (w : Tally) (b : List (Option (ℕ × ℕ))) (past : List ℕ) → IsExactTally o w b past
+    → IsSummed o w b past
 summed_tally o w b past exact i t m low scope node =
     subst (λ (u : Option (ℕ × ℕ)). IsWider (spread_of (all_counts o t m past)) u) (sym (exact.spreads i t m low scope node)) (wider_itself (spread_of (all_counts o t m past)))
 
@@ -123,12 +125,14 @@ module _ (o : Outlined) (found : Found) (past : List ℕ) (n : ℕ) (fault : Opt
 
   -- ---- totals, and dead nodes
 
-  total_told : (k low high : ℕ) → IsLine o found (Total k low high) → Contains trace k × (low ≡ places k trace) × (high ≡ places k trace)
+  total_told : (k low high : ℕ) → IsLine o found (Total k low high)
+      → Contains trace k × (low ≡ places k trace) × (high ≡ places k trace)
   total_told k low high is =
       let both = span_is (spread_at found.books.totals k) low high (visits k full) is.1.span (run.books.totals k is.1.there) in
       (stepped_visited k is.0, both.0 ∙ sym (turned k full), both.1 ∙ sym (turned k full))
 
-  told_total : (k low high : ℕ) → Contains trace k × (low ≡ places k trace) × (high ≡ places k trace) → IsLine o found (Total k low high)
+  told_total : (k low high : ℕ) → Contains trace k × (low ≡ places k trace) × (high ≡ places k trace)
+      → IsLine o found (Total k low high)
   told_total k low high (there, least, most) =
       let within = low_of k there in
       let first : low ≡ visits k full = least ∙ turned k full in
@@ -154,7 +158,8 @@ module _ (o : Outlined) (found : Found) (past : List ℕ) (n : ℕ) (fault : Opt
   -- ---- loops
 
   -- an execution in the order of the run
-  ordered : (s : ℕ) (execution : List ℕ) → IsExecution (shape_of o) s trace execution → IsExecution (shape_of o) s trace (reverse (reverse execution))
+  ordered : (s : ℕ) (execution : List ℕ) → IsExecution (shape_of o) s trace execution
+      → IsExecution (shape_of o) s trace (reverse (reverse execution))
   ordered s execution is = subst (λ (e : List ℕ). IsExecution (shape_of o) s trace e) (sym (reverse-reverse execution)) is
 
   same_places : (k : ℕ) (execution : List ℕ) → places k execution ≡ visits k (reverse execution)
@@ -163,7 +168,9 @@ module _ (o : Outlined) (found : Found) (past : List ℕ) (n : ℕ) (fault : Opt
   header_places : (s : ℕ) (e : List ℕ) → places (header_of o.scopes s) (reverse e) ≡ header_count (shape_of o) s e
   header_places s e = turned (header_of o.scopes s) e ∙ header_visits (shape_of o) s e
 
-  loop_told : (s low high : ℕ) → IsLine o found (Loop s low high) → (s < length o.scopes) × (is_loop (kind_of o.scopes s) ≡ true) × AreExtremes (shape_of o) s trace (places (header_of o.scopes s)) low high
+  loop_told : (s low high : ℕ) → IsLine o found (Loop s low high)
+      → (s < length o.scopes) × (is_loop (kind_of o.scopes s) ≡ true)
+      × AreExtremes (shape_of o) s trace (places (header_of o.scopes s)) low high
   loop_told s low high is =
       let least = loop_least o run.kept found.books.loops full s (low, high) run.books.loops is.1.there is.1.span in
       let most = loop_most o run.kept found.books.loops full s (low, high) run.books.loops is.1.there is.1.span in (
@@ -176,7 +183,9 @@ module _ (o : Outlined) (found : Found) (past : List ℕ) (n : ℕ) (fault : Opt
         },
       )
 
-  told_loop : (s low high : ℕ) → (s < length o.scopes) × (is_loop (kind_of o.scopes s) ≡ true) × AreExtremes (shape_of o) s trace (places (header_of o.scopes s)) low high → IsLine o found (Loop s low high)
+  told_loop : (s low high : ℕ)
+      → (s < length o.scopes) × (is_loop (kind_of o.scopes s) ≡ true)
+      × AreExtremes (shape_of o) s trace (places (header_of o.scopes s)) low high → IsLine o found (Loop s low high)
   told_loop s low high (within, kind, extremes) =
       let e = extremes.least.0 in
       let bounds = loop_bounds o run.kept found.books.loops full s (reverse e) sums.loops within (ordered s e extremes.least.1) in
@@ -200,7 +209,8 @@ module _ (o : Outlined) (found : Found) (past : List ℕ) (n : ℕ) (fault : Opt
 
   -- ---- counts
 
-  count_told : (s k low high : ℕ) → IsLine o found (Count s k low high) → Contains trace k × IsCountedIn o s k × AreExtremes (shape_of o) s trace (places k) low high
+  count_told : (s k low high : ℕ) → IsLine o found (Count s k low high)
+      → Contains trace k × IsCountedIn o s k × AreExtremes (shape_of o) s trace (places k) low high
   count_told s k low high (within, stepped, counted, span) =
       let least = count_least o run.kept found.books.counts full k (low, high) run.books.counts span.there counted.counted span.span in
       let most = count_most o run.kept found.books.counts full k (low, high) run.books.counts span.there counted.counted span.span in (
@@ -219,7 +229,9 @@ module _ (o : Outlined) (found : Found) (past : List ℕ) (n : ℕ) (fault : Opt
       let within = run.kept.scopes_within k (omega (arith, low, same)) in
       subst (λ (t : ℕ). t < length o.scopes) own within
 
-  told_count : (s k low high : ℕ) → Contains trace k × IsCountedIn o s k × AreExtremes (shape_of o) s trace (places k) low high → IsLine o found (Count s k low high)
+  told_count : (s k low high : ℕ)
+      → Contains trace k × IsCountedIn o s k × AreExtremes (shape_of o) s trace (places k) low high
+      → IsLine o found (Count s k low high)
   told_count s k low high (there, counted, extremes) =
       let node = low_of k there in
       let e = extremes.least.0 in

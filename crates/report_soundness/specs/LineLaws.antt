@@ -50,7 +50,8 @@ module _ (o : Outlined) (found : Found) where
       let m = from_span (λ low high. Loop s low high) (spread_at found.books.loops.spreads s) fact parts.1 in
       as_line (Loop s m.low m.high) fact m.is (parts.0, record { there = low; span = m.span })
 
-  count_is : (s n : ℕ) → s < length o.scopes → n < length o.nodes → (fact : Fact) → Contains (count_line o found s n) fact → IsLine o found fact
+  count_is : (s n : ℕ) → s < length o.scopes → n < length o.nodes → (fact : Fact)
+      → Contains (count_line o found s n) fact → IsLine o found fact
   count_is s n low within fact there =
       let lines = span_lines (λ low high. Count s n low high) (spread_at found.books.counts.spreads n) in
       let parts = from_if (is_stepped found n && (is_counted (shape_of o) n && (own_of (shape_of o) n == s))) lines fact there in
@@ -82,7 +83,8 @@ module _ (o : Outlined) (found : Found) where
       let inner = and_parts (own_of (shape_of o) n == s) (not (header_of o.scopes s == n)) outer.1 in
       record { stepped = outer.0; own = eqb-true (own_of (shape_of o) n) s inner.0; no_header = differ (header_of o.scopes s) n (not_false (header_of o.scopes s == n) inner.1) }
 
-  pair_is : (s a b : ℕ) → s < length o.scopes → a < length o.nodes → b < length o.nodes → may_pair o found s a ≡ true → (fact : Fact) → Contains (pair_line o found s a b) fact → IsLine o found fact
+  pair_is : (s a b : ℕ) → s < length o.scopes → a < length o.nodes → b < length o.nodes → may_pair o found s a ≡ true
+      → (fact : Fact) → Contains (pair_line o found s a b) fact → IsLine o found fact
   pair_is s a b low first second may fact there =
       let parts = from_if (nat_lt a b && (may_pair o found s b && not (together found.books.pairs a b))) (Pair s a b ∷ []) fact there in
       let outer = and_parts (nat_lt a b) (may_pair o found s b && not (together found.books.pairs a b)) parts.0 in
@@ -166,7 +168,8 @@ module _ (o : Outlined) (found : Found) where
   in_counts : (fact : Fact) → Contains counts fact → Contains (told_facts o found) fact
   in_counts fact there = Contains-append_right loops (counts ++ (deads ++ (totals ++ (pairs ++ alarms)))) fact (Contains-append_left counts (deads ++ (totals ++ (pairs ++ alarms))) fact there)
 
-  from_deads : (fact : Fact) → Contains (deads ++ (totals ++ (pairs ++ alarms))) fact → Contains (told_facts o found) fact
+  from_deads : (fact : Fact) → Contains (deads ++ (totals ++ (pairs ++ alarms))) fact
+      → Contains (told_facts o found) fact
   from_deads fact there = Contains-append_right loops (counts ++ (deads ++ (totals ++ (pairs ++ alarms)))) fact (Contains-append_right counts (deads ++ (totals ++ (pairs ++ alarms))) fact there)
 
   from_totals : (fact : Fact) → Contains (totals ++ (pairs ++ alarms)) fact → Contains (told_facts o found) fact
@@ -184,7 +187,8 @@ module _ (o : Outlined) (found : Found) where
   among_faults Kind = (5, omega arith, refl)
   among_faults Pointers = (6, omega arith, refl)
 
-  may_pair_so : (s n : ℕ) → is_stepped found n ≡ true → own_of (shape_of o) n ≡ s → header_of o.scopes s ≢ n → may_pair o found s n ≡ true
+  may_pair_so : (s n : ℕ) → is_stepped found n ≡ true → own_of (shape_of o) n ≡ s → header_of o.scopes s ≢ n
+      → may_pair o found s n ≡ true
   may_pair_so s n stepped own other =
       both_true (is_stepped found n) ((own_of (shape_of o) n == s) && not (header_of o.scopes s == n)) stepped
       (both_true (own_of (shape_of o) n == s) (not (header_of o.scopes s == n)) (eq-eqb (own_of (shape_of o) n) s own) (not_true (header_of o.scopes s == n) (ne_eqb (header_of o.scopes s) n other)))

@@ -18,8 +18,8 @@ pub record IsPair (o : Outlined) (found : Found) (s a b : ℕ) : Type 0 where
   pub no_header : (header_of o.scopes s ≢ a) × (header_of o.scopes s ≢ b)
   pub apart : AreApart o found.books.pairs s a b
 
--- the report tells the fact: a loop with an execution, a node of it that was stepped and is not its header, a node that was
--- never stepped, the total of any other, a pair, and each alarm
+-- the report tells the fact: a loop with an execution, a node of it that was stepped and is not its header, a node that
+-- was never stepped, the total of any other, a pair, and each alarm
 abbrev pub IsLine : Outlined → Found → Fact → Type 0
 IsLine o found (Loop s low high) = (is_loop (kind_of o.scopes s) ≡ true) × IsSpan found.books.loops.spreads (length o.scopes) s low high
 IsLine o found (Count s n low high) = (s < length o.scopes) × (is_stepped found n ≡ true) × IsCountedIn o s n × IsSpan found.books.counts.spreads (length o.nodes) n low high

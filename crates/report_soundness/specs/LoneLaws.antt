@@ -65,7 +65,8 @@ quiet_told : (alarms : List FaultSet) (n : ℕ) → ((k : ℕ) → alarm_at alar
 quiet_told alarms n quiet k kind =
     (λ there. absurd (let bad : true ≡ false = sym there ∙ ap (λ (set : FaultSet). has_fault set kind) (quiet k) ∙ is_empty kind in cc), λ so. absurd (none-some kind so.0))
 
-one_told : (alarms : List FaultSet) (n : ℕ) (fault : RunFault) → alarm_at alarms n ≡ with_fault no_faults fault → ((k : ℕ) → k ≢ n → alarm_at alarms k ≡ no_faults) → ToldAt alarms n (Some fault)
+one_told : (alarms : List FaultSet) (n : ℕ) (fault : RunFault) → alarm_at alarms n ≡ with_fault no_faults fault
+    → ((k : ℕ) → k ≢ n → alarm_at alarms k ≡ no_faults) → ToldAt alarms n (Some fault)
 one_told alarms n fault here others k kind = (
   λ there. elim (same_or_not k n) [
     | inl same ↦ (
@@ -99,7 +100,8 @@ module _ {S T C : Type 0} (machine : S → Machine T C) (states : Order T) (even
       happen
 
   -- the run was over, and ends so
-  told_so : (k n : ℕ) (d : C) (ending : Option RunFault) → run k ≡ Some (n, d) → run (suc k) ≡ None → IsSharpOver (machine stepper) four_recording w (trace_to run k) n d
+  told_so : (k n : ℕ) (d : C) (ending : Option RunFault) → run k ≡ Some (n, d) → run (suc k) ≡ None
+      → IsSharpOver (machine stepper) four_recording w (trace_to run k) n d
       → EndsWith system n d ending → ToldAt w.alarms n ending → LoneRun system o (told_report o (found_of w)) trace
   told_so k n d ending here over is ends told =
       let kept = four_kept machine states events stepper o w states_laws machine_laws stepper_kept ok along happen in

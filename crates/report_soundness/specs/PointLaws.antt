@@ -14,21 +14,25 @@ use Rattle.worklist_rules.specs.EndedRuns.{EndsWith, Passes, stops, moves}
 
 module _ {C : Type 0} (system : System C) where
   -- its points, in order
-  abbrev pub points : {n : ℕ} {c : C} {trace : List ℕ} {fault : Option RunFault} → Passes system n c trace fault → List (ℕ × C)
+  abbrev pub points : {n : ℕ} {c : C} {trace : List ℕ} {fault : Option RunFault} → Passes system n c trace fault
+      → List (ℕ × C)
   points {n} {c} (stops way) = (n, c) ∷ []
   points {n} {c} (moves step rest) = (n, c) ∷ points rest
 
   -- its nodes are those of the trace
-  pub nodes_are : {n : ℕ} {c : C} {trace : List ℕ} {fault : Option RunFault} (passes : Passes system n c trace fault) → map (λ (p : ℕ × C). p.0) (points passes) ≡ trace
+  pub nodes_are : {n : ℕ} {c : C} {trace : List ℕ} {fault : Option RunFault} (passes : Passes system n c trace fault)
+      → map (λ (p : ℕ × C). p.0) (points passes) ≡ trace
   nodes_are (stops way) = refl
   nodes_are {n} (moves step rest) = ap (λ (nodes : List ℕ). n ∷ nodes) (nodes_are rest)
 
   -- its first point
-  first_is : {n : ℕ} {c : C} {trace : List ℕ} {fault : Option RunFault} (passes : Passes system n c trace fault) → slice_get (points passes) 0 ≡ Some (n, c)
+  first_is : {n : ℕ} {c : C} {trace : List ℕ} {fault : Option RunFault} (passes : Passes system n c trace fault)
+      → slice_get (points passes) 0 ≡ Some (n, c)
   first_is (stops way) = refl
   first_is (moves step rest) = refl
 
-  way_of : (n : ℕ) (c : C) (fault : Option RunFault) → EndsWith system n c fault → system.ends n c ⊎ ((kind : RunFault) × system.fails n c kind)
+  way_of : (n : ℕ) (c : C) (fault : Option RunFault) → EndsWith system n c fault
+      → system.ends n c ⊎ ((kind : RunFault) × system.fails n c kind)
   way_of n c None way = inl way
   way_of n c (Some kind) way = inr (kind, way)
 
@@ -42,7 +46,8 @@ module _ {C : Type 0} (system : System C) where
   on_at (moves step rest) (suc k) m d at = on_at rest k m d at
 
   -- that is a run
-  pub is_run : {c : C} {trace : List ℕ} {fault : Option RunFault} (passes : Passes system 0 c trace fault) → system.starts c → IsRun system (λ i. slice_get (points passes) i)
+  pub is_run : {c : C} {trace : List ℕ} {fault : Option RunFault} (passes : Passes system 0 c trace fault)
+      → system.starts c → IsRun system (λ i. slice_get (points passes) i)
   is_run {c} passes starts = record { first = (c, first_is passes, starts); on = λ k m d at. on_at passes k m d at }
 
   -- it also passes with each other way to end at its last point
@@ -61,7 +66,8 @@ module _ {C : Type 0} where
   with_append (Some p) xs ys = refl
 
   -- with one point more before the others
-  shifted : (p : ℕ × C) (ps : List (ℕ × C)) (k : ℕ) → trace_to (λ i. slice_get (p ∷ ps) i) (suc k) ≡ trace_to (λ i. slice_get ps i) k ++ p.0 ∷ []
+  shifted : (p : ℕ × C) (ps : List (ℕ × C)) (k : ℕ)
+      → trace_to (λ i. slice_get (p ∷ ps) i) (suc k) ≡ trace_to (λ i. slice_get ps i) k ++ p.0 ∷ []
   shifted p ps zero = refl
   shifted p ps (suc k) =
       ap (λ (xs : List ℕ). with_node (slice_get ps k) xs) (shifted p ps k) ∙ with_append (slice_get ps k) (trace_to (λ i. slice_get ps i) k) (p.0 ∷ [])
@@ -71,7 +77,8 @@ module _ {C : Type 0} where
   all_nodes (p ∷ ps) =
       shifted p ps (length ps) ∙ ap (λ (xs : List ℕ). xs ++ p.0 ∷ []) (all_nodes ps) ∙ sym (reverse-append (p.0 ∷ []) (map (λ (q : ℕ × C). q.0) ps))
 
-  last_length : (ps : List (ℕ × C)) (k : ℕ) (p : ℕ × C) → slice_get ps k ≡ Some p → slice_get ps (suc k) ≡ None → length ps ≡ suc k
+  last_length : (ps : List (ℕ × C)) (k : ℕ) (p : ℕ × C) → slice_get ps k ≡ Some p → slice_get ps (suc k) ≡ None
+      → length ps ≡ suc k
   last_length [] k p at over = absurd (none-some p at)
   last_length (q ∷ []) zero p at over = refl
   last_length (q ∷ r ∷ ps) zero p at over = absurd (none-some r (sym over))

@@ -45,7 +45,8 @@ alarm_there facts n fault there =
 module _ {T C : Type 0} (m : Machine T C) (o : Outlined) (along : IsAlong T C (shape_of o) m)
     (facts : List Fact) (fit : FitOutline (shape_of o) facts) (v : ℕ) (above : IsAbove o facts v) where
   -- the run is over at its newest node
-  over_at : (past : List ℕ) (n : ℕ) (fault : Bool) → IsTrace (shape_of o) (n ∷ past) → EndsAt (shape_of o) facts fault (n ∷ past)
+  over_at : (past : List ℕ) (n : ℕ) (fault : Bool) → IsTrace (shape_of o) (n ∷ past)
+      → EndsAt (shape_of o) facts fault (n ∷ past)
       → All (Meets (shape_of o) (reverse past ++ n ∷ [])) facts → run_cost (costs_of o) (reverse past ++ n ∷ []) ≤ v
   over_at past n fault walk ends met =
       let same : reverse (n ∷ past) ≡ reverse past ++ n ∷ [] = reverse-append (n ∷ []) past in

@@ -35,4 +35,5 @@ pub record IsRightOf (o : Outlined) (report : Reported) (trace : List ℕ) (faul
 -- each run ends, and so it is for each run that ends
 pub record IsSound {C : Type 0} (system : System C) (o : Outlined) (report : Reported) : Type 0 where
   pub ends : (run : ℕ → Option (ℕ × C)) → IsRun system run → RunEnds system run
-  pub right : (c : C) (trace : List ℕ) (fault : Option RunFault) → system.starts c → Passes system 0 c trace fault → IsRightOf o report trace fault
+  pub right : (c : C) (trace : List ℕ) (fault : Option RunFault) → system.starts c → Passes system 0 c trace fault
+      → IsRightOf o report trace fault

@@ -39,14 +39,16 @@ absent_visits n (m ∷ nodes) absent =
     ∙ absent_visits n nodes (λ there. absent (further_member m nodes n there))
 
 -- a visited node was stepped
-pub stepped_there : (stepped : List Bool) (past : List ℕ) → AllStepped stepped past → (n : ℕ) → Contains past n → slice_index_or stepped n false ≡ true
+pub stepped_there : (stepped : List Bool) (past : List ℕ) → AllStepped stepped past → (n : ℕ) → Contains past n
+    → slice_index_or stepped n false ≡ true
 stepped_there stepped [] all n there = no_member n there
 stepped_there stepped (m ∷ past) all n there =
     first_or_further m past n there
     (λ same. subst (λ (k : ℕ). slice_index_or stepped k false ≡ true) same (get_or_from_slice_get stepped m true false all.0))
     (λ older. stepped_there stepped past all.1 n older)
 
-pub greatest_is : (v : Bool) (spread : Option (ℕ × ℕ)) (s : ℕ × ℕ) → v ≡ true → spread ≡ Some s → cond v (option_map_or (λ span. span.1) spread 0) 0 ≡ s.1
+pub greatest_is : (v : Bool) (spread : Option (ℕ × ℕ)) (s : ℕ × ℕ) → v ≡ true → spread ≡ Some s
+    → cond v (option_map_or (λ span. span.1) spread 0) 0 ≡ s.1
 greatest_is v spread s is there = ap (λ (u : Bool). cond u (option_map_or (λ span. span.1) spread 0) 0) is ∙ ap (λ (t : Option (ℕ × ℕ)). option_map_or (λ span. span.1) t 0) there
 
 module _ (o : Outlined) (found : Found) (past : List ℕ) (run : SummedUp o found past) where
@@ -103,6 +105,7 @@ told_holds o found = record {
 }
 
 -- where no place is left, the report is sound
-pub sound_report : {S T C : Type 0} (machine : S → Machine T C) (w : Pooled S T FourRecorders FourBooks) → IsOutline (shape_of w.outline) → EachIsHandled machine four_recording w → w.spots ≡ []
+pub sound_report : {S T C : Type 0} (machine : S → Machine T C) (w : Pooled S T FourRecorders FourBooks)
+    → IsOutline (shape_of w.outline) → EachIsHandled machine four_recording w → w.spots ≡ []
     → IsSound (machine w.stepper).system w.outline (told_report w.outline (found_of w))
 sound_report machine w ok handled empty = collected_sound machine w (told_report w.outline (found_of w)) ok handled empty (told_holds w.outline (found_of w))

@@ -24,7 +24,8 @@ use domain_core::Stepper;
 pub fn told_facts_bound_paths()
     ensures about { (o : Outlined) (found : Found) → All (λ f. IsAbout (shape_of o) f) (told_facts o found) }
     ensures fit { (o : Outlined) (found : Found) → FitOutline (shape_of o) (told_facts o found) }
-    ensures limited { (o : Outlined) (found : Found) → HaveTotals o found → AreLimited (length o.nodes) (told_facts o found) }
+    ensures limited { (o : Outlined) (found : Found) → HaveTotals o found
+        → AreLimited (length o.nodes) (told_facts o found) }
     ensures totals { (o : Outlined) (found : Found) (past : List ℕ) → SumUp o found.books past → HaveTotals o found }
     ensures most { (o : Outlined) (found : Found) → opening_sum o (told_facts o found) ≤ℤ pos (count_bound o found) }
 {}
@@ -37,7 +38,10 @@ pub fn path_bounds_hold_of_runs<S: Stepper>()
     ensures above { (stepper : S) (o : Outlined) (report : Reported) (v : ℕ)
         → IsAlong S.State S.Concrete (shape_of o) (S.machine stepper) → IsSound (S.machine stepper).system o report
         → FitOutline (shape_of o) report.facts → IsAbove o report.facts v → IsAboveRuns (S.machine stepper).system o v }
-    ensures within { (o : Outlined) (found : Found) (v : ℕ) → pos v ≤ℤ opening_sum o (told_facts o found) → v ≤ count_bound o found }
-    ensures exact { (stepper : S) (o : Outlined) (found : Found) (trace : List ℕ) (v : ℕ) → LoneRun (S.machine stepper).system o (told_report o found) trace
-        → IsAboveRuns (S.machine stepper).system o v → pos v ≤ℤ opening_sum o (told_facts o found) → v ≡ run_cost (costs_of o) trace }
+    ensures within { (o : Outlined) (found : Found) (v : ℕ) → pos v ≤ℤ opening_sum o (told_facts o found)
+        → v ≤ count_bound o found }
+    ensures exact { (stepper : S) (o : Outlined) (found : Found) (trace : List ℕ) (v : ℕ)
+        → LoneRun (S.machine stepper).system o (told_report o found) trace
+        → IsAboveRuns (S.machine stepper).system o v → pos v ≤ℤ opening_sum o (told_facts o found)
+        → v ≡ run_cost (costs_of o) trace }
 {}

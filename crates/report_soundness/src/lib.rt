@@ -6,9 +6,9 @@
 //! stepper's system.
 //!
 //! Its facts have what `path_bound` of `path_lp` asks for, and the path bound is at most the count bound.
-//! `bounded_report` puts it in: nothing else of the report changes, some text spells it still, and each run that
-//! the report is sound for costs at most the path bound. The multipliers that show it are handed on. This is the one call that computes; the other functions do
-//! nothing, and their clauses are the laws.
+//! `bounded_report` puts it in: nothing else of the report changes, some text spells it still, and each run that the
+//! report is sound for costs at most the path bound. The multipliers that show it are handed on. This is the one call
+//! that computes; the other functions do nothing, and their clauses are the laws.
 #![tactic(auto)]
 
 // The facts that books tell.

@@ -10,7 +10,8 @@ ghost use Rattle.worklist_rules.specs.Pools.{Pooled};
 ghost use Rattle.worklist_rules.specs.Events.{opened, HappenAll};
 ghost use Rattle.worklist_rules.specs.Policies.{IsPolicyRun};
 ghost use Rattle.worklist_rules.specs.Kept.{IsKept};
-ghost use Rattle.report_soundness.specs.ReportTold.{FourRecorders, FourBooks, Found, four_order, four_recording, books_of, found_of, count_bound, told_report};
+ghost use Rattle.report_soundness.specs.ReportTold.{FourRecorders, FourBooks, Found, four_order, four_recording};
+ghost use Rattle.report_soundness.specs.ReportTold.{books_of, found_of, count_bound, told_report};
 ghost use Rattle.report_soundness.specs.Numbers.{AreOrderly};
 ghost use Rattle.worklist_rules.specs.EndedRuns.{Passes};
 ghost use Rattle.report_soundness.specs.Runs.{IsSound};
@@ -25,8 +26,11 @@ use worklist_rules::Policy;
 pub fn closed_explorations_are_sound<S: Stepper>()
     ensures kept { (w : Pooled S S.State FourRecorders FourBooks) → IsKept S.machine four_recording w → w.spots ≡ []
         → IsSound (S.machine w.stepper).system w.outline (told_report w.outline (found_of w)) }
-    ensures events { (stepper : S) (o : Outlined) (events : List Event) (w : Pooled S S.State FourRecorders FourBooks) → (S.machine stepper).kept → IsOutline (shape_of o)
-        → IsAlong S.State S.Concrete (shape_of o) (S.machine stepper) → HappenAll S.machine S.State.order four_order four_recording (opened S.machine four_recording stepper o) events w
+    ensures events { (stepper : S) (o : Outlined) (events : List Event) (w : Pooled S S.State FourRecorders FourBooks)
+        → (S.machine stepper).kept → IsOutline (shape_of o)
+        → IsAlong S.State S.Concrete (shape_of o) (S.machine stepper)
+        → HappenAll S.machine S.State.order four_order four_recording (opened S.machine four_recording stepper o) events
+        w
         → w.spots ≡ [] → IsSound (S.machine stepper).system o (told_report o (found_of w)) }
 {}
 
@@ -34,14 +38,17 @@ pub fn closed_explorations_are_sound<S: Stepper>()
 /// count of its steps, and the least of a span is not greater than the greatest.
 pub fn numbers_are_at_most_the_steps<S: Stepper>()
     ensures { (stepper : S) (o : Outlined) (events : List Event) (w : Pooled S S.State FourRecorders FourBooks)
-        → HappenAll S.machine S.State.order four_order four_recording (opened S.machine four_recording stepper o) events w → AreOrderly w.steps (books_of w.book) }
+        → HappenAll S.machine S.State.order four_order four_recording (opened S.machine four_recording stepper o) events
+        w → AreOrderly w.steps (books_of w.book) }
 {}
 
 /// Where such numbers times nodes are few, the count bound fits 64 bits, and the report is one that some
 /// text spells: so what is printed is read again as the same report.
 pub fn told_reports_are_writable()
-    ensures room { (o : Outlined) (found : Found) (k : ℕ) → CostsFit o → AreOrderly k found.books → length o.nodes * k ≤ 2 ^ 31 → count_bound o found < 2 ^ 64 }
-    ensures writable { (o : Outlined) (found : Found) (k : ℕ) → IsOutline (shape_of o) → CostsFit o → All (λ row. IsNodeName row.name.items) o.nodes → AreOrderly k found.books
+    ensures room { (o : Outlined) (found : Found) (k : ℕ) → CostsFit o → AreOrderly k found.books
+        → length o.nodes * k ≤ 2 ^ 31 → count_bound o found < 2 ^ 64 }
+    ensures writable { (o : Outlined) (found : Found) (k : ℕ) → IsOutline (shape_of o) → CostsFit o
+        → All (λ row. IsNodeName row.name.items) o.nodes → AreOrderly k found.books
         → length o.nodes * k ≤ 2 ^ 31 → IsWritable (told_report o found) }
 {}
 
@@ -49,9 +56,11 @@ pub fn told_reports_are_writable()
 /// is not below the steps leaves none either, and the same report.
 pub fn analyses_agree<S: Stepper>(policy: Policy)
     ensures one { (turns : ℕ) (old new other : Pooled S S.State FourRecorders FourBooks) (events others : List Event)
-        → IsPolicyRun S.machine S.State.order four_order four_recording policy turns old events new → IsPolicyRun S.machine S.State.order four_order four_recording policy turns old others other
+        → IsPolicyRun S.machine S.State.order four_order four_recording policy turns old events new
+        → IsPolicyRun S.machine S.State.order four_order four_recording policy turns old others other
         → told_report new.outline (found_of new) ≡ told_report other.outline (found_of other) }
-    ensures longer { (turns more : ℕ) (old new other : Pooled S S.State FourRecorders FourBooks) (events others : List Event) → new.steps ≤ more
+    ensures longer { (turns more : ℕ) (old new other : Pooled S S.State FourRecorders FourBooks)
+        (events others : List Event) → new.steps ≤ more
         → IsPolicyRun S.machine S.State.order four_order four_recording policy turns old events new → new.spots ≡ []
         → IsPolicyRun S.machine S.State.order four_order four_recording policy more old others other
         → (other.spots ≡ []) × (told_report new.outline (found_of new) ≡ told_report other.outline (found_of other)) }
@@ -65,9 +74,14 @@ pub fn analyses_agree<S: Stepper>(policy: Policy)
 /// greatest count of each loop's executions, the pairs of this one trace, the run's fault as the only
 /// alarm, and its cost as the count bound.
 pub fn a_lone_run_is_told_exactly<S: Stepper>()
-    ensures { (stepper : S) (o : Outlined) (events : List Event) (w : Pooled S S.State FourRecorders FourBooks) → (S.machine stepper).kept → IsOutline (shape_of o)
-        → IsAlong S.State S.Concrete (shape_of o) (S.machine stepper) → HappenAll S.machine S.State.order four_order four_recording (opened S.machine four_recording stepper o) events w
-        → w.spots ≡ [] → (c : S.Concrete) (trace : List ℕ) (fault : Option RunFault) → (S.machine stepper).system.starts c
+    ensures { (stepper : S) (o : Outlined) (events : List Event) (w : Pooled S S.State FourRecorders FourBooks)
+        → (S.machine stepper).kept → IsOutline (shape_of o)
+        → IsAlong S.State S.Concrete (shape_of o) (S.machine stepper)
+        → HappenAll S.machine S.State.order four_order four_recording (opened S.machine four_recording stepper o) events
+        w
+        → w.spots ≡ [] → (c : S.Concrete) (trace : List ℕ) (fault : Option RunFault)
+        → (S.machine stepper).system.starts c
         → ((d e : S.Concrete) → (S.machine stepper).system.starts d → (S.machine stepper).system.starts e → e ≡ d)
-        → Passes (S.machine stepper).system 0 c trace fault → LoneRun (S.machine stepper).system o (told_report o (found_of w)) trace }
+        → Passes (S.machine stepper).system 0 c trace fault
+        → LoneRun (S.machine stepper).system o (told_report o (found_of w)) trace }
 {}

@@ -6,7 +6,8 @@ ghost use Rattle.flow_facts.specs.Reports.{reported};
 ghost use Rattle.flow_facts.specs.Writable.{IsWritable};
 ghost use Rattle.path_lp.specs.Bounding.{AreHeld, told_duals};
 ghost use Rattle.report_soundness.specs.ReportTold.{Found, told_report};
-ghost use Rattle.report_soundness.specs.Bounded.{IsTold, with_path_bound, bounded, told_bounded_report, IsPathBounded, IsWithinCount, IsLeastOf};
+ghost use Rattle.report_soundness.specs.Bounded.{IsTold, with_path_bound, bounded, told_bounded_report, IsPathBounded};
+ghost use Rattle.report_soundness.specs.Bounded.{IsWithinCount, IsLeastOf};
 
 use domain_core::Outline;
 use dual_check::Duals;
@@ -59,7 +60,8 @@ pub fn bounded_report(
     ensures collected { (found : Found) → reported report ≡ told_report outline.now found
         → IfOk result (λ r. reported r.report ≡ told_bounded_report outline.now found pivots) }
 
-    // No point that meets the rows of the report is worth as much as one more, and no run that meets its facts costs more.
+    // No point that meets the rows of the report is worth as much as one more, and no run that meets its facts costs
+    // more.
     ensures holds { IfOk result (λ r. IsPathBounded outline.now (reported r.report)) }
 
     // Where some text spells the given report, some text spells this one.
@@ -72,10 +74,12 @@ pub fn bounded_report(
     ensures least { IfOk result (λ r. IsLeastOf outline.now (reported r.report)) }
 
     // The multipliers are those that the rule hands out at the end of its run.
-    ensures duals { IfOk result (λ r. (r.duals.scale, r.duals.multipliers.items) ≡ told_duals outline.now (reported report).facts pivots) }
+    ensures duals { IfOk result
+        (λ r. (r.duals.scale, r.duals.multipliers.items) ≡ told_duals outline.now (reported report).facts pivots) }
 
     // There is one for each row of the report, and their test answers that they hold.
-    ensures held { IfOk result (λ r. AreHeld (system_of outline.now (reported report).facts).program r.duals.scale r.duals.multipliers.items) }
+    ensures held { IfOk result
+        (λ r. AreHeld (system_of outline.now (reported report).facts).program r.duals.scale r.duals.multipliers.items) }
 {
     let _ = count_bound(&report);
     let bound = path_bound(alloc, outline, &report, pivots)?;

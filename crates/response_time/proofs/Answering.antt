@@ -19,7 +19,8 @@ module _ (tasks : List Task) (index : ℕ) (times : List ℕ) (are : AreSoFar ta
   first_late task is late = record { task = task; is = is; late = late; earlier = λ k other less there. (get_or times k 0, are.each k other less there) }
 
   -- with its time there are those of one task more
-  pub so_far_more : (task : Task) (time : ℕ) (more : List ℕ) → IsTask tasks index task → IsResponse tasks task time → more ≡ times ++ time ∷ [] → AreSoFar tasks (index + 1) more
+  pub so_far_more : (task : Task) (time : ℕ) (more : List ℕ) → IsTask tasks index task → IsResponse tasks task time
+      → more ≡ times ++ time ∷ [] → AreSoFar tasks (index + 1) more
   so_far_more task time more is response e = rw e (record {
     one_each = let long = are.one_each in simp length-append (omega arith);
     each = λ i other less there. elim (cases_lt i index) [

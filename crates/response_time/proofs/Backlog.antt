@@ -16,7 +16,8 @@ abbrev pub backlog : List Task → ℕ → List Job → ℕ
 backlog tasks p jobs = sum_by (λ job. counted p (priority_of tasks job.task) job.left) jobs
 
 -- jobs of a lower priority are no backlog
-pub no_backlog : (tasks : List Task) (p : ℕ) (jobs : List Job) → All (λ job. p < priority_of tasks job.task) jobs → backlog tasks p jobs ≡ 0
+pub no_backlog : (tasks : List Task) (p : ℕ) (jobs : List Job) → All (λ job. p < priority_of tasks job.task) jobs
+    → backlog tasks p jobs ≡ 0
 no_backlog tasks p [] low = refl
 no_backlog tasks p (job ∷ jobs) low =
     let none = counts_not p (priority_of tasks job.task) job.left (All-head (λ (j : Job). p < priority_of tasks j.task) job jobs low) in
@@ -25,7 +26,8 @@ no_backlog tasks p (job ∷ jobs) low =
     omega arith
 
 -- where there is no backlog each pending job has a lower priority
-pub all_low : (tasks : List Task) (p : ℕ) (jobs : List Job) → All (λ job. 1 ≤ job.left) jobs → backlog tasks p jobs ≡ 0 → All (λ job. p < priority_of tasks job.task) jobs
+pub all_low : (tasks : List Task) (p : ℕ) (jobs : List Job) → All (λ job. 1 ≤ job.left) jobs → backlog tasks p jobs ≡ 0
+    → All (λ job. p < priority_of tasks job.task) jobs
 all_low tasks p [] alive none = All-nil (λ (j : Job). p < priority_of tasks j.task)
 all_low tasks p (job ∷ jobs) alive none =
     let sum = sum_by-cons (λ (j : Job). counted p (priority_of tasks j.task) j.left) job jobs in
@@ -35,7 +37,8 @@ all_low tasks p (job ∷ jobs) alive none =
     (all_low tasks p jobs (All-tail (λ (j : Job). 1 ≤ j.left) job jobs alive) (omega arith))
 
 -- the backlog around a job
-pub backlog_at : (tasks : List Task) (p : ℕ) (front middle rest : List Job) → backlog tasks p (front ++ middle ++ rest) ≡ backlog tasks p front + backlog tasks p middle + backlog tasks p rest
+pub backlog_at : (tasks : List Task) (p : ℕ) (front middle rest : List Job)
+    → backlog tasks p (front ++ middle ++ rest) ≡ backlog tasks p front + backlog tasks p middle + backlog tasks p rest
 backlog_at tasks p front middle rest =
     let f = λ (j : Job). counted p (priority_of tasks j.task) j.left in
     let all = sum_by-append f (front ++ middle) rest in
@@ -50,7 +53,8 @@ unit_less tasks p job some =
     (λ e. rw e (by_test (nat_le (priority_of tasks job.task) p) (λ t. rw t (omega arith)) (λ t. rw t (omega arith))))
 
 -- what holds of each of three parts of a list
-pub all_parts : {X : Type 0} (P : X → Type 0) (front : List X) (x : X) (rest : List X) → All P (front ++ x ∷ rest) → All P front × P x × All P rest
+pub all_parts : {X : Type 0} (P : X → Type 0) (front : List X) (x : X) (rest : List X) → All P (front ++ x ∷ rest)
+    → All P front × P x × All P rest
 all_parts P [] x rest all = (All-nil P, All-head P x rest all, All-tail P x rest all)
 all_parts P (y ∷ front) x rest all =
     let r = all_parts P front x rest (All-tail P y (front ++ x ∷ rest) all) in (All-cons P y front (All-head P y (front ++ x ∷ rest) all) r.0, r.1, r.2)

@@ -19,8 +19,9 @@ use Rattle.response_time.proofs.Released.{brought, brought_more, brought_within}
 use Rattle.response_time.proofs.Backlog.{backlog, no_backlog, all_low, backlog_at, unit_less, all_parts, run_keeps}
 use Rattle.response_time.proofs.Sound.{IsSound, sound_first, sound_run, sound_idled, sound_step, sound}
 
--- What a schedule keeps for one priority: a busy period of this priority has begun, in which each pending job of this priority or a higher one was released. What is left of these jobs, and the time since, are no
--- more than the work that was released since. The period is shorter than the window.
+-- What a schedule keeps for one priority: a busy period of this priority has begun, in which each pending job of this
+-- priority or a higher one was released. What is left of these jobs, and the time since, are no more than the work that
+-- was released since. The period is shorter than the window.
 pub record IsBusy (tasks : List Task) (p window : ℕ) (state : State) : Type 0 where
   pub begin : ℕ
   pub begun : begin ≤ state.time
@@ -42,7 +43,9 @@ module _ (tasks : List Task) (are : AreTasks tasks) (i : ℕ) (task : Task) (is 
       omega arith
 
   -- so the work that is released in such a window is done in it
-  enough : (begin now : ℕ) (lasts : List (Option ℕ)) → ((k before : ℕ) → slice_get lasts k ≡ Some (Some before) → before ≤ now) → now < begin + window → brought task.priority begin tasks lasts ≤ window
+  enough : (begin now : ℕ) (lasts : List (Option ℕ))
+      → ((k before : ℕ) → slice_get lasts k ≡ Some (Some before) → before ≤ now) → now < begin + window
+      → brought task.priority begin tasks lasts ≤ window
   enough begin now lasts earlier short =
       let f = λ (t : Task). t.cost * div_ceil window t.period in
       let all = brought_within task.priority begin now window tasks lasts are.ranges earlier short in
@@ -52,7 +55,8 @@ module _ (tasks : List Task) (are : AreTasks tasks) (i : ℕ) (task : Task) (is 
       omega arith
 
   -- where nothing that counts is pending, a busy period begins
-  restart : (state : State) → IsSound tasks state → backlog tasks task.priority state.pending ≡ 0 → IsBusy tasks task.priority window state
+  restart : (state : State) → IsSound tasks state → backlog tasks task.priority state.pending ≡ 0
+      → IsBusy tasks task.priority window state
   restart state sound none =
       let some = response.least.solves.some in
       record {
@@ -64,7 +68,9 @@ module _ (tasks : List Task) (are : AreTasks tasks) (i : ℕ) (task : Task) (is 
         bounded = omega arith;
       }
 
-  busy_released : (state : State) (k work : ℕ) (next : State) → IsSound tasks state → IsBusy tasks task.priority window state → IsReleased tasks state k work next → IsBusy tasks task.priority window next
+  busy_released : (state : State) (k work : ℕ) (next : State) → IsSound tasks state
+      → IsBusy tasks task.priority window state → IsReleased tasks state k work next
+      → IsBusy tasks task.priority window next
   busy_released state k work next sound busy step =
       let job : Job = record { task = k; release = state.time; left = work } in
       let f = λ (j : Job). counted task.priority (priority_of tasks j.task) j.left in
@@ -86,7 +92,8 @@ module _ (tasks : List Task) (are : AreTasks tasks) (i : ℕ) (task : Task) (is 
             omega arith;
       }
 
-  busy_run : (state : State) (k : ℕ) (next : State) → IsSound tasks state → IsBusy tasks task.priority window state → IsRun tasks state k next → IsBusy tasks task.priority window next
+  busy_run : (state : State) (k : ℕ) (next : State) → IsSound tasks state → IsBusy tasks task.priority window state
+      → IsRun tasks state k next → IsBusy tasks task.priority window next
   busy_run state k next sound busy step =
       let p = task.priority in
       let f = λ (j : Job). counted p (priority_of tasks j.task) j.left in
@@ -124,12 +131,14 @@ module _ (tasks : List Task) (are : AreTasks tasks) (i : ℕ) (task : Task) (is 
             ]
       ]
 
-  busy_step : (state : State) (event : Event) (next : State) → IsSound tasks state → IsBusy tasks task.priority window state → IsStep tasks state event next → IsBusy tasks task.priority window next
+  busy_step : (state : State) (event : Event) (next : State) → IsSound tasks state
+      → IsBusy tasks task.priority window state → IsStep tasks state event next → IsBusy tasks task.priority window next
   busy_step state (Release k work) next sound busy step = busy_released state k work next sound busy step
   busy_step state (Run k) next sound busy step = busy_run state k next sound busy step
   busy_step state Idle next sound busy step = restart next (sound_idled tasks state next sound step) (ap (backlog tasks task.priority) step.pending)
 
-  pub keeps : (events : List Event) (state : State) → Schedule tasks events state → IsSound tasks state × IsBusy tasks task.priority window state
+  pub keeps : (events : List Event) (state : State) → Schedule tasks events state
+      → IsSound tasks state × IsBusy tasks task.priority window state
   keeps events state begins = (sound_first tasks, restart (empty_state tasks) (sound_first tasks) refl)
   keeps events state (goes_on {events = before} {state = old} event next schedule step) =
       let kept = keeps before old schedule in
@@ -149,7 +158,8 @@ module _ (tasks : List Task) (are : AreTasks tasks) (i : ℕ) (task : Task) (is 
 pub finish_in_time : FinishInTime
 finish_in_time tasks events state i task window are schedule is response = finish tasks are i task is window response events state schedule
 
-pub finish_within : (tasks : List Task) (times : List ℕ) → AreTasks tasks → AreResponses tasks times → FinishWithin tasks times
+pub finish_within : (tasks : List Task) (times : List ℕ) → AreTasks tasks → AreResponses tasks times
+    → FinishWithin tasks times
 finish_within tasks times are responses events state schedule k d low =
     let job = get_or state.pending k d in
     let whose = task_there tasks job.task ((sound tasks events state schedule).known k d low) in

@@ -16,7 +16,8 @@ use Rattle.response_time.specs.Responses.{interference, IsLate}
 use Rattle.response_time.specs.Shares.{share_of, IsCrowdedOut}
 
 -- a share of a window is at most the cost of each period that begins in it
-share_within : (window cost period share n whole : ℕ) → share * period ≤ cost * whole → window ≤ n * period → window * share ≤ cost * n * whole
+share_within : (window cost period share n whole : ℕ) → share * period ≤ cost * whole → window ≤ n * period
+    → window * share ≤ cost * n * whole
 share_within window cost period share n whole part covers =
     let one = mul-le-mul_right share covers in
     let two = mul-le-mul_right n part in
@@ -24,14 +25,16 @@ share_within window cost period share n whole part covers =
     let right : cost * whole * n ≡ cost * n * whole = grind arith in
     omega arith
 
-pub share_brought : (p window : ℕ) (other : Task) → IsInRange other → window * share_of p other ≤ interference p window other * 4294967296
+pub share_brought : (p window : ℕ) (other : Task) → IsInRange other
+    → window * share_of p other ≤ interference p window other * 4294967296
 share_brought p window other range =
     by_test (nat_lt other.priority p)
     (λ e. rw e (share_within window other.cost other.period (other.cost * 4294967296 / other.period) (div_ceil window other.period) 4294967296
     (div-mul-le_self (other.cost * 4294967296) other.period) (div_ceil_times window other.period range.period).0))
     (λ e. rw e (omega arith))
 
-pub shares_brought : (p window : ℕ) (tasks : List Task) → All IsInRange tasks → window * sum_by (share_of p) tasks ≤ sum_by (interference p window) tasks * 4294967296
+pub shares_brought : (p window : ℕ) (tasks : List Task) → All IsInRange tasks
+    → window * sum_by (share_of p) tasks ≤ sum_by (interference p window) tasks * 4294967296
 shares_brought p window [] ranges = omega arith
 shares_brought p window (task ∷ tasks) ranges =
     let one = share_brought p window task (All-head IsInRange task tasks ranges) in
@@ -41,7 +44,8 @@ shares_brought p window (task ∷ tasks) ranges =
     omega arith
 
 -- where the shares make up the whole, there is no solution
-pub none_of_all : (tasks : List Task) (task : Task) → All IsInRange tasks → 1 ≤ task.cost → 4294967296 ≤ sum_by (share_of task.priority) tasks → IsLate tasks task
+pub none_of_all : (tasks : List Task) (task : Task) → All IsInRange tasks → 1 ≤ task.cost
+    → 4294967296 ≤ sum_by (share_of task.priority) tasks → IsLate tasks task
 none_of_all tasks task ranges some full time solves =
     let equal = solves.equal in
     let brought = shares_brought task.priority time tasks ranges in
@@ -49,7 +53,9 @@ none_of_all tasks task ranges some full time solves =
     absurd (omega arith)
 
 -- and where what they leave is too little, there is none up to the deadline
-pub none_of_rest : (tasks : List Task) (task : Task) (free : ℕ) → All IsInRange tasks → free + sum_by (share_of task.priority) tasks ≡ 4294967296 → task.deadline * free < task.cost * 4294967296 → IsLate tasks task
+pub none_of_rest : (tasks : List Task) (task : Task) (free : ℕ) → All IsInRange tasks
+    → free + sum_by (share_of task.priority) tasks ≡ 4294967296 → task.deadline * free < task.cost * 4294967296
+    → IsLate tasks task
 none_of_rest tasks task free ranges rest little time solves = elim (cases_lt task.deadline time) [
   | inl late ↦ late
   | inr due ↦
@@ -61,14 +67,16 @@ none_of_rest tasks task free ranges rest little time solves = elim (cases_lt tas
 ]
 
 -- so a task that is crowded out is late
-pub crowded_late : (tasks : List Task) (task : Task) → All IsInRange tasks → 1 ≤ task.cost → IsCrowdedOut tasks task → IsLate tasks task
+pub crowded_late : (tasks : List Task) (task : Task) → All IsInRange tasks → 1 ≤ task.cost → IsCrowdedOut tasks task
+    → IsLate tasks task
 crowded_late tasks task ranges some little = elim (cases_lt (sum_by (share_of task.priority) tasks) 4294967296) [
   | inr full ↦ none_of_all tasks task ranges some full
   | inl less ↦ none_of_rest tasks task (4294967296 - sum_by (share_of task.priority) tasks) ranges (omega arith) little
 ]
 
 -- a share that leaves nothing crowds out
-pub is_full : (tasks : List Task) (task : Task) (i free share : ℕ) (other : Task) → 1 ≤ task.cost → i < length tasks → other ≡ get_or tasks i other
+pub is_full : (tasks : List Task) (task : Task) (i free share : ℕ) (other : Task) → 1 ≤ task.cost → i < length tasks
+    → other ≡ get_or tasks i other
     → free + sum_by (share_of task.priority) (take i tasks) ≡ 4294967296 → share ≡ share_of task.priority other → free ≤ share → IsCrowdedOut tasks task
 is_full tasks task i free share other some low there so_far is least =
     let whose : share_of task.priority other ≡ share_of task.priority (get_or tasks i other) = ap (share_of task.priority) there in
@@ -77,7 +85,9 @@ is_full tasks task i free share other some low there so_far is least =
     rw none (omega arith)
 
 -- what all shares leave
-pub left_by_all : (tasks : List Task) (task : Task) (i free : ℕ) → length tasks ≤ i → free + sum_by (share_of task.priority) (take i tasks) ≡ 4294967296 → free ≡ 4294967296 - sum_by (share_of task.priority) tasks
+pub left_by_all : (tasks : List Task) (task : Task) (i free : ℕ) → length tasks ≤ i
+    → free + sum_by (share_of task.priority) (take i tasks) ≡ 4294967296
+    → free ≡ 4294967296 - sum_by (share_of task.priority) tasks
 left_by_all tasks task i free over so_far =
     let all : sum_by (share_of task.priority) (take i tasks) ≡ sum_by (share_of task.priority) tasks = ap (sum_by (share_of task.priority)) (take_all i tasks over) in
     omega arith

@@ -14,7 +14,8 @@ task_there (task ∷ tasks) zero low = (task, refl)
 task_there (task ∷ tasks) (suc i) low = task_there tasks i (omega arith)
 
 -- a task has one response time
-one_response : (tasks : List Task) (task : Task) (time other : ℕ) → IsResponse tasks task time → IsResponse tasks task other → time ≡ other
+one_response : (tasks : List Task) (task : Task) (time other : ℕ) → IsResponse tasks task time
+    → IsResponse tasks task other → time ≡ other
 one_response tasks task time other p q =
     let below = p.least.least other q.least.solves in
     let above = q.least.least time p.least.solves in

@@ -23,7 +23,8 @@ counts_not p priority n less = let e = lt-leb priority p less in rw e
 pub counted_rises : (p priority m n : ℕ) → m ≤ n → counted p priority m ≤ counted p priority n
 counted_rises p priority m n le = by_test (nat_le priority p) (λ e. rw e le) (λ e. rw e (omega arith))
 
-pub counted_both : (p priority m n k : ℕ) → m + n ≤ k → counted p priority m + counted p priority n ≤ counted p priority k
+pub counted_both : (p priority m n k : ℕ) → m + n ≤ k
+    → counted p priority m + counted p priority n ≤ counted p priority k
 counted_both p priority m n k le = by_test (nat_le priority p) (λ e. rw e le) (λ e. rw e (omega arith))
 
 -- the range of a task
@@ -37,7 +38,8 @@ priority_is (x ∷ tasks) zero task is = let same : x ≡ task = cc in ap (λ (t
 priority_is (x ∷ tasks) (suc i) task is = priority_is tasks i task is
 
 -- no two tasks have one priority
-pub alone : (tasks : List Task) → AreTasks tasks → (i k : ℕ) (task other : Task) → IsTask tasks i task → IsTask tasks k other → other.priority ≡ task.priority → k ≡ i
+pub alone : (tasks : List Task) → AreTasks tasks → (i k : ℕ) (task other : Task) → IsTask tasks i task
+    → IsTask tasks k other → other.priority ≡ task.priority → k ≡ i
 alone tasks are i k task other is there same =
     let low = slice_get_within tasks i task is in
     let low_other = slice_get_within tasks k other there in
@@ -66,7 +68,9 @@ as_high_other p f task other = elim (cases_order task.priority p) [
   | inr (inr more) ↦ let is = counts_not p task.priority (f task) more in omega arith
 ]
 
-as_high_others : (p : ℕ) (f : Task → ℕ) (tasks : List Task) → ((k : ℕ) (other : Task) → IsTask tasks k other → other.priority ≡ p → ⊥) → sum_by (as_high p f) tasks ≤ sum_by (higher p f) tasks
+as_high_others : (p : ℕ) (f : Task → ℕ) (tasks : List Task)
+    → ((k : ℕ) (other : Task) → IsTask tasks k other → other.priority ≡ p → ⊥)
+    → sum_by (as_high p f) tasks ≤ sum_by (higher p f) tasks
 as_high_others p f [] others = omega arith
 as_high_others p f (task ∷ tasks) others =
     let one = as_high_other p f task (others 0 task refl) in
@@ -76,7 +80,8 @@ as_high_others p f (task ∷ tasks) others =
     omega arith
 
 -- where one task alone has this very priority, it is what the two differ by
-pub as_high_alone : (p : ℕ) (f : Task → ℕ) (tasks : List Task) (i : ℕ) (task : Task) → IsTask tasks i task → ((k : ℕ) (other : Task) → IsTask tasks k other → other.priority ≡ p → k ≡ i)
+pub as_high_alone : (p : ℕ) (f : Task → ℕ) (tasks : List Task) (i : ℕ) (task : Task) → IsTask tasks i task
+    → ((k : ℕ) (other : Task) → IsTask tasks k other → other.priority ≡ p → k ≡ i)
     → sum_by (as_high p f) tasks ≤ sum_by (higher p f) tasks + f task
 as_high_alone p f [] i task is alone = omega arith
 as_high_alone p f (x ∷ tasks) zero task is alone =

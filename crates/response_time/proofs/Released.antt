@@ -33,7 +33,8 @@ one_more : (period x y : ℕ) → 1 ≤ period → x + period ≤ y → x / peri
 one_more period x y some le = let part = div-mul-le_self x period in le-div (x / period + 1) y period some (omega arith)
 
 -- a release brings at most the cost
-brings_more : (p begin now : ℕ) (task : Task) (last : Option ℕ) → 1 ≤ task.period → begin ≤ now → ((before : ℕ) → last ≡ Some before → before + task.period ≤ now)
+brings_more : (p begin now : ℕ) (task : Task) (last : Option ℕ) → 1 ≤ task.period → begin ≤ now
+    → ((before : ℕ) → last ≡ Some before → before + task.period ≤ now)
     → brought_by p begin task last + counted p task.priority task.cost ≤ brought_by p begin task (Some now)
 brings_more p begin now task None some begun apart =
     let more = one_more task.period (0 - begin) (now + task.period - begin) some (omega arith) in
@@ -45,7 +46,8 @@ brings_more p begin now task (Some before) some begun apart =
     let times = mul-le-mul_left task.cost more in
     counted_both p task.priority (task.cost * ((before + task.period - begin) / task.period)) task.cost (task.cost * ((now + task.period - begin) / task.period)) (omega arith)
 
-pub brought_more : (p begin now : ℕ) (tasks : List Task) (lasts : List (Option ℕ)) (i : ℕ) (task : Task) → 1 ≤ task.period → begin ≤ now → length lasts ≡ length tasks → IsTask tasks i task
+pub brought_more : (p begin now : ℕ) (tasks : List Task) (lasts : List (Option ℕ)) (i : ℕ) (task : Task)
+    → 1 ≤ task.period → begin ≤ now → length lasts ≡ length tasks → IsTask tasks i task
     → ((before : ℕ) → slice_get lasts i ≡ Some (Some before) → before + task.period ≤ now)
     → brought p begin tasks lasts + counted p task.priority task.cost ≤ brought p begin tasks (set lasts i (Some now))
 brought_more p begin now [] lasts i task some begun long is apart = absurd (let low = slice_get_within [] i task is in omega arith)
@@ -59,7 +61,8 @@ brought_more p begin now (x ∷ tasks) (last ∷ lasts) (suc i) task some begun 
     omega arith
 
 -- in a window no task brings more than a job for each period that begins in it
-brings_within : (p begin now window : ℕ) (task : Task) (last : Option ℕ) → 1 ≤ task.period → ((before : ℕ) → last ≡ Some before → before ≤ now) → now < begin + window
+brings_within : (p begin now window : ℕ) (task : Task) (last : Option ℕ) → 1 ≤ task.period
+    → ((before : ℕ) → last ≡ Some before → before ≤ now) → now < begin + window
     → brought_by p begin task last ≤ counted p task.priority (task.cost * div_ceil window task.period)
 brings_within p begin now window task None some earlier short =
     let none = zero-div task.period in
@@ -72,7 +75,8 @@ brings_within p begin now window task (Some before) some earlier short =
     let few = no_unit_more ((before + task.period - begin) / task.period) (div_ceil window task.period) task.period (omega arith) in
     counted_rises p task.priority _ _ (mul-le-mul_left task.cost few)
 
-pub brought_within : (p begin now window : ℕ) (tasks : List Task) (lasts : List (Option ℕ)) → All IsInRange tasks → ((k before : ℕ) → slice_get lasts k ≡ Some (Some before) → before ≤ now) → now < begin + window
+pub brought_within : (p begin now window : ℕ) (tasks : List Task) (lasts : List (Option ℕ)) → All IsInRange tasks
+    → ((k before : ℕ) → slice_get lasts k ≡ Some (Some before) → before ≤ now) → now < begin + window
     → brought p begin tasks lasts ≤ sum_by (λ task. counted p task.priority (task.cost * div_ceil window task.period)) tasks
 brought_within p begin now window [] lasts ranges earlier short = omega arith
 brought_within p begin now window (task ∷ tasks) [] ranges earlier short = omega arith

@@ -25,7 +25,8 @@ rounded_up_rises a b (suc y) le =
     let q = div_ceil_times b (suc y) (omega arith) in
     no_unit_more (div_ceil a (suc y)) (div_ceil b (suc y)) (suc y) (omega arith)
 
-pub interference_rises : (priority a b : ℕ) (other : Task) → a ≤ b → interference priority a other ≤ interference priority b other
+pub interference_rises : (priority a b : ℕ) (other : Task) → a ≤ b
+    → interference priority a other ≤ interference priority b other
 interference_rises priority a b other le =
     by_test (nat_lt other.priority priority)
     (λ e. rw e (mul-le-mul_left other.cost (rounded_up_rises a b other.period le)))

@@ -16,7 +16,8 @@ pub record IsSound (tasks : List Task) (state : State) : Type 0 where
   pub known : All (λ job. job.task < length tasks) state.pending
 
 -- what stands in a list after a write is what was written or stood there
-set_cases : {X : Type 0} (xs : List X) (i k : ℕ) (x y : X) → slice_get (set xs i x) k ≡ Some y → (x ≡ y) ⊎ (slice_get xs k ≡ Some y)
+set_cases : {X : Type 0} (xs : List X) (i k : ℕ) (x y : X) → slice_get (set xs i x) k ≡ Some y
+    → (x ≡ y) ⊎ (slice_get xs k ≡ Some y)
 set_cases [] i k x y is = inr is
 set_cases (z ∷ xs) zero zero x y is = inl (cc)
 set_cases (z ∷ xs) zero (suc k) x y is = inr is
@@ -31,7 +32,8 @@ none_released (suc n) (suc k) before is = none_released n k before is
 
 -- each event keeps the sound
 module _ (tasks : List Task) where
-  pub sound_released : (state : State) (i work : ℕ) (next : State) → IsSound tasks state → IsReleased tasks state i work next → IsSound tasks next
+  pub sound_released : (state : State) (i work : ℕ) (next : State) → IsSound tasks state
+      → IsReleased tasks state i work next → IsSound tasks next
   sound_released state i work next sound step =
       let job : Job = record { task = i; release = state.time; left = work } in
       record {
@@ -45,7 +47,8 @@ module _ (tasks : List Task) where
             (All-push (λ (j : Job). j.task < length tasks) state.pending job sound.known (slice_get_within tasks i step.task step.is));
       }
 
-  pub sound_run : (state : State) (i : ℕ) (next : State) → IsSound tasks state → IsRun tasks state i next → IsSound tasks next
+  pub sound_run : (state : State) (i : ℕ) (next : State) → IsSound tasks state → IsRun tasks state i next
+      → IsSound tasks next
   sound_run state i next sound step = record {
     one_each = ap length step.last ∙ sound.one_each;
     earlier = λ k before is. let low = sound.earlier k before (ap (λ (l : List (Option ℕ)). slice_get l k) (sym step.last) ∙ is) in let now = step.time in omega arith;
@@ -70,7 +73,8 @@ module _ (tasks : List Task) where
   }
 
   -- each event keeps it
-  pub sound_step : (state : State) (event : Event) (next : State) → IsSound tasks state → IsStep tasks state event next → IsSound tasks next
+  pub sound_step : (state : State) (event : Event) (next : State) → IsSound tasks state → IsStep tasks state event next
+      → IsSound tasks next
   sound_step state (Release i work) next sound step = sound_released state i work next sound step
   sound_step state (Run i) next sound step = sound_run state i next sound step
   sound_step state Idle next sound step = sound_idled state next sound step

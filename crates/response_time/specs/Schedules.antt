@@ -83,4 +83,5 @@ IsStep tasks state Idle next = IsIdled state next
 -- the events are allowed one after the other from the empty state, and this state comes after them
 pub data Schedule (tasks : List Task) : List Event → State → Type 0 where
   begins : Schedule tasks [] (empty_state tasks)
-  goes_on : {events : List Event} {state : State} (event : Event) (next : State) → Schedule tasks events state → IsStep tasks state event next → Schedule tasks (events ++ event ∷ []) next
+  goes_on : {events : List Event} {state : State} (event : Event) (next : State) → Schedule tasks events state
+      → IsStep tasks state event next → Schedule tasks (events ++ event ∷ []) next

@@ -25,7 +25,8 @@ abbrev bit : Bool → ℕ
 bit v = cond v 1 0
 
 -- the members before one that passes, and this one, are among those that pass
-count_take : {A : Type 0} (p : A → Bool) (xs : List A) (k : ℕ) (x : A) → slice_get xs k ≡ Some x → count_by p (take k xs) + bit (p x) ≤ count_by p xs
+count_take : {A : Type 0} (p : A → Bool) (xs : List A) (k : ℕ) (x : A) → slice_get xs k ≡ Some x
+    → count_by p (take k xs) + bit (p x) ≤ count_by p xs
 count_take p [] k x is = absurd (none-some x is)
 count_take {A} p (y ∷ xs) zero x is =
     let same : y ≡ x = same_Some y x is in
@@ -68,7 +69,8 @@ pub record AllowSoFar (o : Outlined) (facts : List Fact) (k : ℕ) (visits : Lis
   pub long : length visits ≡ length o.nodes
   pub most : (n : ℕ) → n < length o.nodes → slice_index visits n ≡ most_of n (take k facts)
 
-most_more : (n : ℕ) (facts : List Fact) (k : ℕ) (f : Fact) → slice_get facts k ≡ Some f → most_of n (take (k + 1) facts) ≡ most_of n (take k facts) + line_most n f
+most_more : (n : ℕ) (facts : List Fact) (k : ℕ) (f : Fact) → slice_get facts k ≡ Some f
+    → most_of n (take (k + 1) facts) ≡ most_of n (take k facts) + line_most n f
 most_more n facts k f is =
     let low = slice_get_within facts k f is in
     let there : get_or facts k f ≡ f = get_or_from_slice_get facts k f f is in
@@ -76,7 +78,8 @@ most_more n facts k f is =
     ap (λ (fs : List Fact). most_of n fs) parts ∙ sum_by_push (λ g. line_most n g) (take k facts) f
 
 -- one line more
-allow_more : (o : Outlined) (facts : List Fact) → ((n : ℕ) → n < length o.nodes → count_by (λ f. tells_total n f) facts ≡ 1) → (k : ℕ) (f : Fact) (visits : List ℕ)
+allow_more : (o : Outlined) (facts : List Fact)
+    → ((n : ℕ) → n < length o.nodes → count_by (λ f. tells_total n f) facts ≡ 1) → (k : ℕ) (f : Fact) (visits : List ℕ)
     → slice_get facts k ≡ Some f → AllowSoFar o facts k visits → AllowSoFar o facts (k + 1) (with_line visits f)
 allow_more o facts once k f visits is so = record { long = long f; most = λ n low. most n low f is }
   where
@@ -88,10 +91,12 @@ allow_more o facts once k f visits is so = record { long = long f; most = λ n l
     long (Pair s a b) = so.long
     long (Alarm m fault) = so.long
 
-    as_before : (n : ℕ) (g : Fact) → n < length o.nodes → slice_get facts k ≡ Some g → line_most n g ≡ 0 → slice_index visits n ≡ most_of n (take (k + 1) facts)
+    as_before : (n : ℕ) (g : Fact) → n < length o.nodes → slice_get facts k ≡ Some g → line_most n g ≡ 0
+        → slice_index visits n ≡ most_of n (take (k + 1) facts)
     as_before n g low there none = let before = so.most n low in let more = most_more n facts k g there in omega (arith, before, more, none)
 
-    most : (n : ℕ) → n < length o.nodes → (g : Fact) → slice_get facts k ≡ Some g → slice_index (with_line visits g) n ≡ most_of n (take (k + 1) facts)
+    most : (n : ℕ) → n < length o.nodes → (g : Fact) → slice_get facts k ≡ Some g
+        → slice_index (with_line visits g) n ≡ most_of n (take (k + 1) facts)
     most n low (Loop s least last) there = as_before n (Loop s least last) low there refl
     most n low (Count s m least last) there = as_before n (Count s m least last) low there refl
     most n low (Dead m) there = as_before n (Dead m) low there refl
@@ -114,12 +119,14 @@ allow_more o facts once k f visits is so = record { long = long f; most = λ n l
     most n low (Pair s a b) there = as_before n (Pair s a b) low there refl
     most n low (Alarm m fault) there = as_before n (Alarm m fault) low there refl
 
-pub allow_at : (o : Outlined) (facts : List Fact) → ((n : ℕ) → n < length o.nodes → count_by (λ f. tells_total n f) facts ≡ 1) → (k : ℕ) (d : Fact) (visits : List ℕ)
+pub allow_at : (o : Outlined) (facts : List Fact)
+    → ((n : ℕ) → n < length o.nodes → count_by (λ f. tells_total n f) facts ≡ 1) → (k : ℕ) (d : Fact) (visits : List ℕ)
     → k < length facts → AllowSoFar o facts k visits → AllowSoFar o facts (k + 1) (with_line visits (get_or facts k d))
 allow_at o facts once k d visits low so = allow_more o facts once k (get_or facts k d) visits (slice_get-get_or facts k d low) so
 
 -- where no node is there more often than it is allowed, none is more often than its lines say
-pub are_within : (o : Outlined) (facts : List Fact) (visits trace : List ℕ) → length visits ≡ length o.nodes → ((n : ℕ) → n < length o.nodes → slice_index visits n ≡ most_of n facts)
+pub are_within : (o : Outlined) (facts : List Fact) (visits trace : List ℕ) → length visits ≡ length o.nodes
+    → ((n : ℕ) → n < length o.nodes → slice_index visits n ≡ most_of n facts)
     → AreAllowed visits trace → AreWithinLines facts trace
 are_within o facts visits trace long most allowed n =
     let few = allowed n in

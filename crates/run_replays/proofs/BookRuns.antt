@@ -39,7 +39,8 @@ pub record HasRun (o : Outlined) (books : Books) (past : List ℕ) : Type 0 wher
   pub exact : ExactBooks o books past
 
 -- a count in a span that is inside the numbers
-inside : (low high c : ℕ) (spread : Option (ℕ × ℕ)) → is_outside low high spread ≡ false → Bounds spread c → IsBetween low high c
+inside : (low high c : ℕ) (spread : Option (ℕ × ℕ)) → is_outside low high spread ≡ false → Bounds spread c
+    → IsBetween low high c
 inside low high c None free bounds = absurd (none-some bounds.span bounds.is)
 inside low high c (Some s) free bounds =
     let within : IsWithin c s = subst (λ (t : ℕ × ℕ). IsWithin c t) (sym (same_Some s bounds.span bounds.is)) bounds.within in
@@ -55,14 +56,16 @@ inside_numbers low high s least most = ap (λ (v : Bool). v || nat_lt high s.1) 
 
 module _ (o : Outlined) (books : Books) (past : List ℕ) (run : HasRun o books past) where
   -- an execution in its order, as one with the newest node first
-  ordered : (s : ℕ) (execution : List ℕ) → IsExecution (shape_of o) s (reverse past) execution → IsExecution (shape_of o) s (reverse past) (reverse (reverse execution))
+  ordered : (s : ℕ) (execution : List ℕ) → IsExecution (shape_of o) s (reverse past) execution
+      → IsExecution (shape_of o) s (reverse past) (reverse (reverse execution))
   ordered s execution is = subst (λ (e : List ℕ). IsExecution (shape_of o) s (reverse past) e) (sym (reverse-reverse execution)) is
 
   same_places : (n : ℕ) (execution : List ℕ) → places n execution ≡ visits n (reverse execution)
   same_places n execution = ap (λ (e : List ℕ). places n e) (sym (reverse-reverse execution)) ∙ turned n (reverse execution)
 
   -- a line that the books do not break is met
-  pub unbroken_is_met : (fact : Fact) → FitsOutline (shape_of o) fact → breaks books fact ≡ false → Meets (shape_of o) (reverse past) fact
+  pub unbroken_is_met : (fact : Fact) → FitsOutline (shape_of o) fact → breaks books fact ≡ false
+      → Meets (shape_of o) (reverse past) fact
   unbroken_is_met (Loop s low high) fits free = λ execution is.
       let bounds = loop_bounds o run.kept books.loops past s (reverse execution) run.sums.loops fits.0 (ordered s execution is) in
       let header = header_of (shape_of o).scopes s in
@@ -95,7 +98,9 @@ module _ (o : Outlined) (books : Books) (past : List ℕ) (run : HasRun o books 
   header_places : (s : ℕ) (e : List ℕ) → places (header_of o.scopes s) (reverse e) ≡ header_count (shape_of o) s e
   header_places s e = turned (header_of o.scopes s) e ∙ header_visits (shape_of o) s e
 
-  loop_free : (s low high : ℕ) → FitsOutline (shape_of o) (Loop s low high) → Meets (shape_of o) (reverse past) (Loop s low high) → (t : Option (ℕ × ℕ)) → spread_at books.loops.spreads s ≡ t → is_outside low high t ≡ false
+  loop_free : (s low high : ℕ) → FitsOutline (shape_of o) (Loop s low high)
+      → Meets (shape_of o) (reverse past) (Loop s low high) → (t : Option (ℕ × ℕ)) → spread_at books.loops.spreads s ≡ t
+      → is_outside low high t ≡ false
   loop_free s low high fits meets None is = refl
   loop_free s low high fits meets (Some span) is =
       let least = loop_least o run.kept books.loops past s span run.exact.loops fits.0 is in
@@ -106,7 +111,9 @@ module _ (o : Outlined) (books : Books) (past : List ℕ) (run : HasRun o books 
       let last : places (header_of o.scopes s) (reverse most.0) ≡ span.1 = header_places s most.0 ∙ most.2 in
       inside_numbers low high span (omega (arith, below, first)) (omega (arith, above, last))
 
-  count_free : (s k low high : ℕ) → FitsOutline (shape_of o) (Count s k low high) → Meets (shape_of o) (reverse past) (Count s k low high) → (t : Option (ℕ × ℕ)) → spread_at books.counts.spreads k ≡ t → is_outside low high t ≡ false
+  count_free : (s k low high : ℕ) → FitsOutline (shape_of o) (Count s k low high)
+      → Meets (shape_of o) (reverse past) (Count s k low high) → (t : Option (ℕ × ℕ))
+      → spread_at books.counts.spreads k ≡ t → is_outside low high t ≡ false
   count_free s k low high fits meets None is = refl
   count_free s k low high fits meets (Some span) is =
       let node = node_in o k fits.2 in
@@ -120,7 +127,8 @@ module _ (o : Outlined) (books : Books) (past : List ℕ) (run : HasRun o books 
       inside_numbers low high span (omega (arith, below, first)) (omega (arith, above, last))
 
   -- the total of a node is its visits
-  total_free : (k low high : ℕ) → k < length o.nodes → IsBetween low high (places k (reverse past)) → is_outside low high (spread_at books.totals k) ≡ false
+  total_free : (k low high : ℕ) → k < length o.nodes → IsBetween low high (places k (reverse past))
+      → is_outside low high (spread_at books.totals k) ≡ false
   total_free k low high there meets =
       let same = turned k past in
       let below = meets.0 in
@@ -129,7 +137,8 @@ module _ (o : Outlined) (books : Books) (past : List ℕ) (run : HasRun o books 
       ∙ inside_numbers low high (visits k past, visits k past) (omega (arith, same, below)) (omega (arith, same, above))
 
   -- and one that is met they do not break
-  pub met_is_unbroken : (fact : Fact) → FitsOutline (shape_of o) fact → Meets (shape_of o) (reverse past) fact → breaks books fact ≡ false
+  pub met_is_unbroken : (fact : Fact) → FitsOutline (shape_of o) fact → Meets (shape_of o) (reverse past) fact
+      → breaks books fact ≡ false
   met_is_unbroken (Loop s low high) fits meets = loop_free s low high fits meets (spread_at books.loops.spreads s) refl
   met_is_unbroken (Count s n low high) fits meets = count_free s n low high fits meets (spread_at books.counts.spreads n) refl
   met_is_unbroken (Dead n) fits meets = total_free n 0 0 (node_in o n fits) (omega arith, omega (arith, meets))
@@ -156,7 +165,8 @@ sized_books o book ((totals_long, (loop_tally_is, loops_long)), ((count_tally_is
 }
 
 -- what is entered in a book is the run of its books
-pub entered_run : (o : Outlined) (book : FourBooks) (past : List ℕ) → IsEntered four_recording o book past → HasRun o (books_of book) past
+pub entered_run : (o : Outlined) (book : FourBooks) (past : List ℕ) → IsEntered four_recording o book past
+    → HasRun o (books_of book) past
 entered_run o book past is = record {
   kept = is.kept;
   sums = record { totals = is.sums.0.0; loops = is.sums.0.1; counts = is.sums.1.0; pairs = is.sums.1.1 };

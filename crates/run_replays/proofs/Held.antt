@@ -70,7 +70,8 @@ module _ (program : NumberedProgram) (graph : GraphParts) (o : Outlined) (begin 
       omega (arith, there, count)
 
   -- a run that comes to a node too often stops there
-  pub told_stop : (n place : ℕ) → IsPassed program graph begin visits n → position (λ f. tells_total n f) report.facts ≡ Some place
+  pub told_stop : (n place : ℕ) → IsPassed program graph begin visits n
+      → position (λ f. tells_total n f) report.facts ≡ Some place
       → TellsRun program graph.nodes begin (shape_of o) (costs_of o) report (Err (NoFact (first_line report + place)))
   told_stop n place passed is =
       let line = most n (passed_low n passed) in
@@ -96,7 +97,8 @@ module _ (program : NumberedProgram) (graph : GraphParts) (o : Outlined) (begin 
       (subst (λ (fault : Option RunFault). TellEnd (shape_of o) (costs_of o) report (reverse (run.last ∷ over.past)) fault told) over.fault tells)
 
 -- values that are inside their ranges one by one
-pub all_inside : (rows : List InputRow) (values : List ℤ) → length values ≡ length rows → ((k : ℕ) → k < length rows → IsInside rows values k) → AreWithin rows values
+pub all_inside : (rows : List InputRow) (values : List ℤ) → length values ≡ length rows
+    → ((k : ℕ) → k < length rows → IsInside rows values k) → AreWithin rows values
 all_inside [] [] same inside = tt
 all_inside [] (v ∷ values) same inside = absurd (omega (arith, same))
 all_inside (r ∷ rows) [] same inside = absurd (omega (arith, same))
@@ -109,7 +111,8 @@ all_inside (r ∷ rows) (v ∷ values) same inside =
     )
 
 -- one value more
-pub inside_more : (rows : List InputRow) (values : List ℤ) (k : ℕ) (d : InputRow) (e : ℤ) → k < length rows → k < length values → IsWithin (get_or rows k d) (get_or values k e)
+pub inside_more : (rows : List InputRow) (values : List ℤ) (k : ℕ) (d : InputRow) (e : ℤ) → k < length rows
+    → k < length values → IsWithin (get_or rows k d) (get_or values k e)
     → ((j : ℕ) → j < k → IsInside rows values j) → (j : ℕ) → j < k + 1 → IsInside rows values j
 inside_more rows values k d e low there within before j less =
     elim (cases_lt j k) [
@@ -121,7 +124,8 @@ inside_more rows values k d e low there within before j less =
     one_number : (n m : ℕ) → m < n + 1 → n ≤ m → n ≡ m
     one_number n m below above = omega (arith, below, above)
 
-words_next : (rows : List InputRow) (values : List ℤ) (k : ℕ) (d : InputRow) (e : ℤ) → k < length rows → k < length values
+words_next : (rows : List InputRow) (values : List ℤ) (k : ℕ) (d : InputRow) (e : ℤ) → k < length rows
+    → k < length values
     → words_of (take (suc k) rows) (take (suc k) values) ≡ words_of (take k rows) (take k values) ++ word (get_or rows k d).size (get_or values k e) ∷ []
 words_next [] values k d e low there = absurd (omega (arith, low))
 words_next (row ∷ rows) [] k d e low there = absurd (omega (arith, there))
@@ -130,6 +134,7 @@ words_next (row ∷ rows) (value ∷ values) (suc k) d e low there =
     ap (λ (ws : List ℕ). word row.size value ∷ ws) (words_next rows values k d e (omega (arith, low)) (omega (arith, there)))
 
 -- the word of one value more
-pub words_more : (rows : List InputRow) (values : List ℤ) (k : ℕ) (d : InputRow) (e : ℤ) → k < length rows → k < length values
+pub words_more : (rows : List InputRow) (values : List ℤ) (k : ℕ) (d : InputRow) (e : ℤ) → k < length rows
+    → k < length values
     → words_of (take (k + 1) rows) (take (k + 1) values) ≡ words_of (take k rows) (take k values) ++ word (get_or rows k d).size (get_or values k e) ∷ []
 words_more rows values k d e low there = ap (λ (n : ℕ). words_of (take n rows) (take n values)) (add-one k) ∙ words_next rows values k d e low there

@@ -38,7 +38,8 @@ use Rattle.run_replays.specs.OneReplay.{Differ}
 -- ---- one thing that is asked
 
 -- one thing is told, where one thing objects, none does where it passes, and the rest tells one thing
-one_asked : {Objects : Objection → Type 0} {Passes : Type 0} {Rest : Told → Type 0} → ((e f : Objection) → Objects e → Objects f → e ≡ f) → ((e : Objection) → Objects e → Passes → ⊥)
+one_asked : {Objects : Objection → Type 0} {Passes : Type 0} {Rest : Told → Type 0}
+    → ((e f : Objection) → Objects e → Objects f → e ≡ f) → ((e : Objection) → Objects e → Passes → ⊥)
     → ((a b : Told) → Rest a → Rest b → a ≡ b) → (a b : Told) → Asks Objects Passes Rest a → Asks Objects Passes Rest b → a ≡ b
 one_asked one never rest a b (objects e first is) (objects f second same) = is ∙ ap (λ (x : Objection). Err x) (one e f first second) ∙ sym same
 one_asked one never rest a b (objects e first is) (passes holds later) = absurd (never e first holds)
@@ -69,7 +70,8 @@ module _ (report : Reported) (cost : ℕ) where
 -- ---- lines
 
 -- the members before a place hold the one at a lesser place
-member_before : {A : Type 0} (xs : List A) (i j : ℕ) (x : A) → i < j → slice_get xs i ≡ Some x → slice_get (take j xs) i ≡ Some x
+member_before : {A : Type 0} (xs : List A) (i j : ℕ) (x : A) → i < j → slice_get xs i ≡ Some x
+    → slice_get (take j xs) i ≡ Some x
 member_before [] i j x less is = absurd (none-some x is)
 member_before (y ∷ xs) i zero x less is = absurd (omega (arith, less))
 member_before (y ∷ xs) zero (suc j) x less is = is
@@ -79,7 +81,8 @@ contained : {A : Type 0} (xs : List A) (i : ℕ) (x : A) → slice_get xs i ≡ 
 contained xs i x is = (i, slice_get_within xs i x is, get_or_from_slice_get xs i x x is)
 
 module _ (o : Shape) (costs : List ℕ) (report : Reported) (trace : List ℕ) where
-  met_before : (place : ℕ) (fact : Fact) → slice_get report.facts place ≡ Some fact → (later : ℕ) → place < later → All (Meets o trace) (take later report.facts) → Meets o trace fact
+  met_before : (place : ℕ) (fact : Fact) → slice_get report.facts place ≡ Some fact → (later : ℕ) → place < later
+      → All (Meets o trace) (take later report.facts) → Meets o trace fact
   met_before place fact there later less met =
       All-contains (Meets o trace) (take later report.facts) fact met (contained (take later report.facts) place fact (member_before report.facts place later fact less there))
 
@@ -139,7 +142,8 @@ module _ (o : Shape) (costs : List ℕ) (report : Reported) (trace : List ℕ) (
 -- ---- runs
 
 -- nodes have one list of numbers
-numbers_one : (nodes : List Node) → Differ nodes → (xs ys : List ℕ) (run : List Node) → AreNumbersOf nodes xs run → AreNumbersOf nodes ys run → xs ≡ ys
+numbers_one : (nodes : List Node) → Differ nodes → (xs ys : List ℕ) (run : List Node) → AreNumbersOf nodes xs run
+    → AreNumbersOf nodes ys run → xs ≡ ys
 numbers_one nodes apart [] [] [] h k = refl
 numbers_one nodes apart [] (n ∷ ys) [] h k = absurd k
 numbers_one nodes apart (m ∷ xs) ys [] h k = absurd h
@@ -151,7 +155,8 @@ numbers_one nodes apart (m ∷ xs) (n ∷ ys) (node ∷ run) h k =
     ap (λ (x : ℕ). x ∷ xs) first ∙ ap (λ (l : List ℕ). n ∷ l) rest
 
 -- one node more
-pub numbers_push : (nodes : List Node) (xs : List ℕ) (run : List Node) (n : ℕ) (node : Node) → AreNumbersOf nodes xs run → IsNodeAt nodes n node → AreNumbersOf nodes (xs ++ n ∷ []) (run ++ node ∷ [])
+pub numbers_push : (nodes : List Node) (xs : List ℕ) (run : List Node) (n : ℕ) (node : Node) → AreNumbersOf nodes xs run
+    → IsNodeAt nodes n node → AreNumbersOf nodes (xs ++ n ∷ []) (run ++ node ∷ [])
 numbers_push nodes [] [] n node are is = (is, tt)
 numbers_push nodes [] (x ∷ run) n node are is = absurd are
 numbers_push nodes (m ∷ xs) [] n node are is = absurd are
@@ -162,7 +167,8 @@ abbrev bit : Bool → ℕ
 bit v = cond v 1 0
 
 -- what stands first among nodes is there no more often than among all
-places_grow : (nodes : List Node) → Differ nodes → (n : ℕ) (xs ys : List ℕ) (run more : List Node) → AreNumbersOf nodes xs run → AreNumbersOf nodes ys (run ++ more) → places n xs ≤ places n ys
+places_grow : (nodes : List Node) → Differ nodes → (n : ℕ) (xs ys : List ℕ) (run more : List Node)
+    → AreNumbersOf nodes xs run → AreNumbersOf nodes ys (run ++ more) → places n xs ≤ places n ys
 places_grow nodes apart n [] ys [] more h k = let none : places n [] ≡ 0 = refl in omega (arith, none)
 places_grow nodes apart n [] ys (node ∷ run) more h k = absurd h
 places_grow nodes apart n (m ∷ xs) ys [] more h k = absurd h
@@ -184,7 +190,8 @@ at_node a b c d same = cc
 
 module _ (more : AfterMore) (over : StaysOver) (one : HasOneEnd) (program : NumberedProgram) (nodes : List Node) (apart : Differ nodes) (begin : Moment) (o : Shape) (costs : List ℕ) (report : Reported) where
   -- the node where the run stops is among those of each longer part of the run
-  longer : (before : List ℕ) (n : ℕ) → Reaches program nodes begin before n → (ys : List ℕ) (t : ℕ) → length before + 1 ≤ t → AreNumbersOf nodes ys (passed program t begin)
+  longer : (before : List ℕ) (n : ℕ) → Reaches program nodes begin before n → (ys : List ℕ) (t : ℕ)
+      → length before + 1 ≤ t → AreNumbersOf nodes ys (passed program t begin)
       → places n (before ++ n ∷ []) ≤ places n ys
   longer before n reaches ys t less are =
       let k = length before in
@@ -200,7 +207,8 @@ module _ (more : AfterMore) (over : StaysOver) (one : HasOneEnd) (program : Numb
       (subst (λ (l : List Node). AreNumbersOf nodes ys l) (all.passes ∙ ap (λ (l : List Node). l ++ passed program rest (after program (k + 1) begin)) shorter) given)
 
   -- a run that stops is not within its lines farther on
-  stop_within : (e : Objection) (stop : IsStop program nodes begin report e) (ys : List ℕ) (t : ℕ) → length stop.before + 1 ≤ t → AreNumbersOf nodes ys (passed program t begin)
+  stop_within : (e : Objection) (stop : IsStop program nodes begin report e) (ys : List ℕ) (t : ℕ)
+      → length stop.before + 1 ≤ t → AreNumbersOf nodes ys (passed program t begin)
       → AreWithinLines report.facts ys → ⊥
   stop_within e stop ys t less are within =
       let grown = longer stop.before stop.node stop.reaches ys t less are in
@@ -223,7 +231,8 @@ module _ (more : AfterMore) (over : StaysOver) (one : HasOneEnd) (program : Numb
       ]
 
   -- and does not come to its end within its lines
-  stop_ends : (e : Objection) → IsStop program nodes begin report e → (trace : List ℕ) (outcome : Outcome) → Runs program nodes begin trace outcome → AreWithinLines report.facts trace → ⊥
+  stop_ends : (e : Objection) → IsStop program nodes begin report e → (trace : List ℕ) (outcome : Outcome)
+      → Runs program nodes begin trace outcome → AreWithinLines report.facts trace → ⊥
   stop_ends e stop trace outcome runs within =
       let k = length stop.before in
       let u = runs.ends.steps in
@@ -237,7 +246,8 @@ module _ (more : AfterMore) (over : StaysOver) (one : HasOneEnd) (program : Numb
       ]
 
   -- one thing is told of a run
-  run_one : (a b : Told) → TellsRun program nodes begin o costs report a → TellsRun program nodes begin o costs report b → a ≡ b
+  run_one : (a b : Told) → TellsRun program nodes begin o costs report a → TellsRun program nodes begin o costs report b
+      → a ≡ b
   run_one a b (stops e first is) (stops f second same) = is ∙ ap (λ (x : Objection). Err x) (stops_one e f first second) ∙ sym same
   run_one a b (stops e first is) (ends trace outcome runs within told) = absurd (stop_ends e first trace outcome runs within)
   run_one a b (ends trace outcome runs within told) (stops f second same) = absurd (stop_ends f second trace outcome runs within)
@@ -250,13 +260,15 @@ module _ (more : AfterMore) (over : StaysOver) (one : HasOneEnd) (program : Numb
 -- ---- values
 
 -- one row and one value are at a place
-same_row : (rows : List InputRow) (values : List ℤ) (k : ℕ) (row : InputRow) (value : ℤ) → slice_get rows k ≡ Some row → slice_get values k ≡ Some value → IsInside rows values k → IsWithin row value
+same_row : (rows : List InputRow) (values : List ℤ) (k : ℕ) (row : InputRow) (value : ℤ) → slice_get rows k ≡ Some row
+    → slice_get values k ≡ Some value → IsInside rows values k → IsWithin row value
 same_row rows values k row value row_is value_is inside =
     let one : inside.row ≡ row = same_Some inside.row row (sym inside.row_is ∙ row_is) in
     let other : inside.value ≡ value = same_Some inside.value value (sym inside.value_is ∙ value_is) in
     subst (λ (r : InputRow). IsWithin r value) one (subst (λ (v : ℤ). IsWithin inside.row v) other inside.within)
 
-within_at : (rows : List InputRow) (values : List ℤ) (k : ℕ) (row : InputRow) (value : ℤ) → slice_get rows k ≡ Some row → slice_get values k ≡ Some value → AreWithin rows values → IsWithin row value
+within_at : (rows : List InputRow) (values : List ℤ) (k : ℕ) (row : InputRow) (value : ℤ) → slice_get rows k ≡ Some row
+    → slice_get values k ≡ Some value → AreWithin rows values → IsWithin row value
 within_at [] values k row value row_is value_is within = absurd (none-some row row_is)
 within_at (r ∷ rows) [] k row value row_is value_is within = absurd within
 within_at (r ∷ rows) (v ∷ values) zero row value row_is value_is within =

@@ -34,7 +34,8 @@ pub record Placed {A : Type 0} (p : A → Bool) (b : ℕ) (xs : List A) (line : 
   pub before : (y : A) → Contains (take place xs) y → p y ≡ false
   pub is : line ≡ b + place
 
-pub placed : {A : Type 0} (p : A → Bool) (b : ℕ) (xs : List A) (line : ℕ) → place_of p b xs ≡ Some line → Placed p b xs line
+pub placed : {A : Type 0} (p : A → Bool) (b : ℕ) (xs : List A) (line : ℕ) → place_of p b xs ≡ Some line
+    → Placed p b xs line
 placed p b [] line is = absurd (let bad : None ≡ Some line = is in cc)
 placed {A} p b (x ∷ xs) line is =
     by_test (p x)
@@ -57,7 +58,8 @@ placed {A} p b (x ∷ xs) line is =
     no_more : (k : ℕ) → k ≡ k + 0
     no_more k = omega arith
 
-pub none_placed : {A : Type 0} (p : A → Bool) (b : ℕ) (xs : List A) → place_of p b xs ≡ None → (x : A) → Contains xs x → p x ≡ false
+pub none_placed : {A : Type 0} (p : A → Bool) (b : ℕ) (xs : List A) → place_of p b xs ≡ None → (x : A) → Contains xs x
+    → p x ≡ false
 none_placed p b [] none x there = no_member x there
 none_placed {A} p b (y ∷ xs) none x there =
     by_test (p y)
@@ -83,7 +85,8 @@ module _ (o : Outlined) (report : Reported) (books : Books) (past : List ℕ) (r
   fits f there = All-contains (λ g. FitsOutline (shape_of o) g) report.facts f fit there
 
   -- the line of the first that the books break is told
-  pub tells_unmet : (line : ℕ) → place_of (λ f. breaks books f) (first_line report) report.facts ≡ Some line → TellFacts (shape_of o) (costs_of o) report (reverse past) (Err (NoFact line))
+  pub tells_unmet : (line : ℕ) → place_of (λ f. breaks books f) (first_line report) report.facts ≡ Some line
+      → TellFacts (shape_of o) (costs_of o) report (reverse past) (Err (NoFact line))
   tells_unmet line is =
       let found = placed (λ f. breaks books f) (first_line report) report.facts line is in
       let among = among_at report.facts found.place found.member found.there in
@@ -98,18 +101,22 @@ module _ (o : Outlined) (report : Reported) (books : Books) (past : List ℕ) (r
       }) refl
 
   -- where they break none, the bounds are asked
-  pub tells_met : (told : Told) → place_of (λ f. breaks books f) (first_line report) report.facts ≡ None → TellBounds report (run_cost (costs_of o) (reverse past)) told → TellFacts (shape_of o) (costs_of o) report (reverse past) told
+  pub tells_met : (told : Told) → place_of (λ f. breaks books f) (first_line report) report.facts ≡ None
+      → TellBounds report (run_cost (costs_of o) (reverse past)) told
+      → TellFacts (shape_of o) (costs_of o) report (reverse past) told
   tells_met told none bounds =
       passes (all_members (Meets (shape_of o) (reverse past)) report.facts
       (λ f there. unbroken_is_met o books past run f (fits f there) (none_placed (λ g. breaks books g) (first_line report) report.facts none f there))) bounds
 
   -- the same, where the lines and the number of the first one are told apart
-  pub unmet_told : (facts : List Fact) (first line : ℕ) → facts ≡ report.facts → first ≡ first_line report → Some line ≡ place_of (λ f. breaks books f) first facts
+  pub unmet_told : (facts : List Fact) (first line : ℕ) → facts ≡ report.facts → first ≡ first_line report
+      → Some line ≡ place_of (λ f. breaks books f) first facts
       → TellFacts (shape_of o) (costs_of o) report (reverse past) (Err (NoFact line))
   unmet_told facts first line same start is =
       tells_unmet line (sym (is ∙ ap (λ (fs : List Fact). place_of (λ f. breaks books f) first fs) same ∙ ap (λ (b : ℕ). place_of (λ f. breaks books f) b report.facts) start))
 
-  pub met_told : (facts : List Fact) (first cost : ℕ) (told : Told) → facts ≡ report.facts → first ≡ first_line report → None ≡ place_of (λ f. breaks books f) first facts
+  pub met_told : (facts : List Fact) (first cost : ℕ) (told : Told) → facts ≡ report.facts → first ≡ first_line report
+      → None ≡ place_of (λ f. breaks books f) first facts
       → cost ≡ run_cost (costs_of o) (reverse past) → TellBounds report cost told → TellFacts (shape_of o) (costs_of o) report (reverse past) told
   met_told facts first cost told same start is spent bounds =
       tells_met told (sym (is ∙ ap (λ (fs : List Fact). place_of (λ f. breaks books f) first fs) same ∙ ap (λ (b : ℕ). place_of (λ f. breaks books f) b report.facts) start))
@@ -122,13 +129,16 @@ module _ (o : Shape) (costs : List ℕ) (report : Reported) (facts : List Fact) 
   in_order = reverse-append (last ∷ []) past
 
   -- a fault without an alarm is told
-  pub told_lacking : (e : Objection) → ((before : List ℕ) → LacksAlarm facts (before ++ last ∷ []) fault e) → TellEnd o costs report (reverse (last ∷ past)) fault (Err e)
+  pub told_lacking : (e : Objection) → ((before : List ℕ) → LacksAlarm facts (before ++ last ∷ []) fault e)
+      → TellEnd o costs report (reverse (last ∷ past)) fault (Err e)
   told_lacking e lacks =
       objects e (subst (λ (trace : List ℕ). LacksAlarm report.facts trace fault e) (sym in_order)
       (subst (λ (fs : List Fact). LacksAlarm fs (reverse past ++ last ∷ []) fault e) same (lacks (reverse past)))) refl
 
   -- and where none lacks one, the lines are asked
-  pub told_alarmed : (told : Told) → ((before : List ℕ) → HasAlarm facts (before ++ last ∷ []) fault) → TellFacts o costs report (reverse (last ∷ past)) told → TellEnd o costs report (reverse (last ∷ past)) fault told
+  pub told_alarmed : (told : Told) → ((before : List ℕ) → HasAlarm facts (before ++ last ∷ []) fault)
+      → TellFacts o costs report (reverse (last ∷ past)) told
+      → TellEnd o costs report (reverse (last ∷ past)) fault told
   told_alarmed told has rest =
       passes (subst (λ (trace : List ℕ). HasAlarm report.facts trace fault) (sym in_order)
       (subst (λ (fs : List Fact). HasAlarm fs (reverse past ++ last ∷ []) fault) same (has (reverse past)))) rest

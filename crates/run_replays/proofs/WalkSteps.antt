@@ -56,12 +56,14 @@ stands_so machine (At node history) h = record { node = node; history = history;
 stands_so machine (Over outcome) h = absurd h
 
 -- what a node costs
-pub node_price : (o : Outlined) (n : ℕ) (row : NodeRow) → slice_get o.nodes n ≡ Some row → row.cost ≡ slice_index (costs_of o) n
+pub node_price : (o : Outlined) (n : ℕ) (row : NodeRow) → slice_get o.nodes n ≡ Some row
+    → row.cost ≡ slice_index (costs_of o) n
 node_price o n row is =
     sym (get_or_from_slice_get (map (λ (r : NodeRow). r.cost) o.nodes) n row.cost 0 (slice_get-map (λ (r : NodeRow). r.cost) o.nodes n ∙ ap (λ (t : Option NodeRow). option_map (λ r. r.cost) t) is))
 
 -- a run so far: after so many turns the machine stands at this node, and the nodes before are entered
-pub record SoFar {R B : Type 0} (z : Recording R B) (program : NumberedProgram) (graph : GraphParts) (o : Outlined) (begin : Moment) (allowed : List ℕ)
+pub record SoFar {R B : Type 0} (z : Recording R B) (program : NumberedProgram) (graph : GraphParts) (o : Outlined)
+    (begin : Moment) (allowed : List ℕ)
     (turn at : ℕ) (left : List ℕ) (cost : ℕ) (recorder : R) (book : B) (machine : RunMachine) : Type 0 where
   pub past : List ℕ
   pub program_is : seen machine.checked ≡ program
@@ -184,7 +186,8 @@ module _ {R B : Type 0} (order : Order R) (z : Recording R B) (laws : IsRecordin
     number_is : (n : ℕ) (node : Node) → IsNodeAt graph.nodes n node → node_number graph n ≡ node
     number_is n node is = get_or_from_slice_get graph.nodes n node first_node is
 
-    pub step_along : (to : ℕ) (moved : RunMachine) → moved.graph ≡ machine.graph → to ≡ moved.node → StandsAt moved (step (seen machine.checked) (after program turn begin)) → Along to
+    pub step_along : (to : ℕ) (moved : RunMachine) → moved.graph ≡ machine.graph → to ≡ moved.node
+        → StandsAt moved (step (seen machine.checked) (after program turn begin)) → Along to
     step_along to moved g n stands =
         let there = stands_so moved (step program (after program turn begin)) (subst (λ (m : Moment). StandsAt moved m) stepped stands) in
         let number : IsNodeAt graph.nodes to there.node =
@@ -225,7 +228,8 @@ module _ {R B : Type 0} (order : Order R) (z : Recording R B) (laws : IsRecordin
         omega (arith, before, kept, as_many))
 
     -- the run goes on
-    pub goes_on : (to : ℕ) (gone : R) (gone_book : B) (moved : RunMachine) → Along to → gone ≡ z.gone o recorder book at to → gone_book ≡ z.gone_book o recorder book at to
+    pub goes_on : (to : ℕ) (gone : R) (gone_book : B) (moved : RunMachine) → Along to
+        → gone ≡ z.gone o recorder book at to → gone_book ≡ z.gone_book o recorder book at to
         → moved.checked ≡ machine.checked → moved.graph ≡ machine.graph → to ≡ moved.node → StandsAt moved (step (seen machine.checked) (after program turn begin))
         → SoFar z program graph o begin allowed (turn + 1) to (set left at (one - 1)) (cost + price) gone gone_book moved
     goes_on to gone gone_book moved along gone_is book_is p g n stands =
@@ -256,7 +260,9 @@ module _ {R B : Type 0} (order : Order R) (z : Recording R B) (laws : IsRecordin
         (subst (λ (b : B). SoFar z program graph o begin allowed (turn + 1) to (set left at (one - 1)) (cost + price) (z.gone o recorder book at to) b moved) (sym book_is) so_on)
 
     -- the run is over
-    pub is_over : (outcome : Outcome) (fault : Option RunFault) (spent : ℕ) (ended : B) → step (seen machine.checked) (after program turn begin) ≡ Over outcome → fault ≡ fault_of outcome → spent ≡ cost + price
+    pub is_over : (outcome : Outcome) (fault : Option RunFault) (spent : ℕ) (ended : B)
+        → step (seen machine.checked) (after program turn begin) ≡ Over outcome → fault ≡ fault_of outcome
+        → spent ≡ cost + price
         → ended ≡ z.finished o recorder book at → IsOver z program graph o begin allowed (record { book = ended; cost = spent; last = at; fault = fault })
     is_over outcome fault spent ended over fault_is spent_is ended_is = record {
       past = so.past;

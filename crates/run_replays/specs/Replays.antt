@@ -1,5 +1,5 @@
--- The one run from given values, held against the lines of a report: what it costs, or the first thing that speaks against
--- the report.
+-- The one run from given values, held against the lines of a report: what it costs, or the first thing that speaks
+-- against the report.
 --   Told                          what is told: a cost, or an objection
 --   Asks Objects Passes Rest told one thing is asked: what objects is told, and where it passes, the rest tells
 --   fault_of outcome              the fault with which a run ends, if with one
@@ -87,7 +87,8 @@ abbrev pub AreWithinLines : List Fact → List ℕ → Type 0
 AreWithinLines facts trace = (n : ℕ) → places n trace ≤ most_of n facts
 
 -- a run goes through the nodes of the list, and then stands at node n
-pub record Reaches (program : NumberedProgram) (nodes : List Node) (begin : Moment) (before : List ℕ) (n : ℕ) : Type 0 where
+pub record Reaches (program : NumberedProgram) (nodes : List Node) (begin : Moment) (before : List ℕ)
+    (n : ℕ) : Type 0 where
   pub node : Node
   pub history : List RunEvent
   pub numbers : AreNumbersOf nodes before (passed program (length before) begin)
@@ -95,7 +96,8 @@ pub record Reaches (program : NumberedProgram) (nodes : List Node) (begin : Mome
   pub number : IsNodeAt nodes n node
 
 -- with it the node would be there more often than its line, the `dead` or the `total` line, allows; so far no node is
-pub record IsStop (program : NumberedProgram) (nodes : List Node) (begin : Moment) (report : Reported) (e : Objection) : Type 0 where
+pub record IsStop (program : NumberedProgram) (nodes : List Node) (begin : Moment) (report : Reported)
+    (e : Objection) : Type 0 where
   pub before : List ℕ
   pub node : ℕ
   pub place : ℕ
@@ -158,9 +160,12 @@ abbrev pub TellEnd : Shape → List ℕ → Reported → List ℕ → Option Run
 TellEnd o costs report trace fault = Asks (LacksAlarm report.facts trace fault) (HasAlarm report.facts trace fault) (TellFacts o costs report trace)
 
 -- what is told of the run from there: it stops where a node passes its line, and else is over
-pub data TellsRun (program : NumberedProgram) (nodes : List Node) (begin : Moment) (o : Shape) (costs : List ℕ) (report : Reported) (told : Told) : Type 0 where
-  stops : (e : Objection) → IsStop program nodes begin report e → told ≡ Err e → TellsRun program nodes begin o costs report told
-  ends : (trace : List ℕ) (outcome : Outcome) → Runs program nodes begin trace outcome → AreWithinLines report.facts trace → TellEnd o costs report trace (fault_of outcome) told
+pub data TellsRun (program : NumberedProgram) (nodes : List Node) (begin : Moment) (o : Shape) (costs : List ℕ)
+    (report : Reported) (told : Told) : Type 0 where
+  stops : (e : Objection) → IsStop program nodes begin report e → told ≡ Err e
+      → TellsRun program nodes begin o costs report told
+  ends : (trace : List ℕ) (outcome : Outcome) → Runs program nodes begin trace outcome
+      → AreWithinLines report.facts trace → TellEnd o costs report trace (fault_of outcome) told
       → TellsRun program nodes begin o costs report told
 
 -- what is told of the run from these values against a report of the right form

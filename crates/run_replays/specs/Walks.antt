@@ -24,7 +24,8 @@ abbrev pub AreAllowed : List ℕ → List ℕ → Type 0
 AreAllowed allowed trace = (n : ℕ) → places n trace ≤ slice_index allowed n
 
 -- the run comes to node n, which was there as often as it is allowed
-pub record IsPassed (program : NumberedProgram) (graph : GraphParts) (begin : Moment) (allowed : List ℕ) (n : ℕ) : Type 0 where
+pub record IsPassed (program : NumberedProgram) (graph : GraphParts) (begin : Moment) (allowed : List ℕ)
+    (n : ℕ) : Type 0 where
   pub before : List ℕ
   pub reaches : Reaches program graph.nodes begin before n
   pub within : AreAllowed allowed before
@@ -38,7 +39,8 @@ pub record IsEntered {R B : Type 0} (z : Recording R B) (o : Outlined) (book : B
   pub exact : z.exact o book past
 
 -- the run is over within these visits
-pub record IsOver {R B : Type 0} (z : Recording R B) (program : NumberedProgram) (graph : GraphParts) (o : Outlined) (begin : Moment) (allowed : List ℕ) (run : RunBook B) : Type 0 where
+pub record IsOver {R B : Type 0} (z : Recording R B) (program : NumberedProgram) (graph : GraphParts) (o : Outlined)
+    (begin : Moment) (allowed : List ℕ) (run : RunBook B) : Type 0 where
   pub past : List ℕ
   pub outcome : Outcome
   pub runs : Runs program graph.nodes begin (reverse (run.last ∷ past)) outcome
@@ -48,6 +50,7 @@ pub record IsOver {R B : Type 0} (z : Recording R B) (program : NumberedProgram)
   pub cost : run.cost ≡ run_cost (costs_of o) (reverse (run.last ∷ past))
 
 -- what is told of the run from there
-abbrev pub Walks : {R B : Type 0} → Recording R B → NumberedProgram → GraphParts → Outlined → Moment → List ℕ → Walked B → Type 0
+abbrev pub Walks : {R B : Type 0} → Recording R B → NumberedProgram → GraphParts → Outlined → Moment → List ℕ → Walked B
+    → Type 0
 Walks z program graph o begin allowed (walks.Passed n) = IsPassed program graph begin allowed n
 Walks z program graph o begin allowed (walks.Over run) = IsOver z program graph o begin allowed run

@@ -16,7 +16,8 @@ pub fn allowed(alloc: Global, outline: &Outline, facts: &[Fact]) -> Result<Vec<u
     requires fit { FitOutline (shape_of outline.now) facts.now }
     requires once { (n : ℕ) → n < length outline.now.nodes → count_by (λ f. tells_total_of n f) facts.now ≡ 1 }
     ensures long { IfOk result (λ visits. length visits.items ≡ length outline.now.nodes) }
-    ensures most { IfOk result (λ visits. (n : ℕ) → n < length outline.now.nodes → slice_index visits.items n ≡ most_of n facts.now) }
+    ensures most { IfOk result
+        (λ visits. (n : ℕ) → n < length outline.now.nodes → slice_index visits.items n ≡ most_of n facts.now) }
 {
     let mut visits = vec![in alloc; 0u32; outline.node_count() as usize]?;
     for fact in facts {

@@ -1,6 +1,7 @@
 //! What is told of a run that is over.
 
-ghost use Rattle.std.specs.Prelude.{◌≡◌, ◌≤◌, ◌^◌, ◌↔◌, IsTrue, ℕ, List, [], ◌∷◌, ◌++◌, Contains, reverse, length, IfSome, IfNone};
+ghost use Rattle.std.specs.Prelude.{◌≡◌, ◌≤◌, ◌^◌, ◌↔◌, IsTrue, ℕ, List, [], ◌∷◌, ◌++◌, Contains, reverse, length};
+ghost use Rattle.std.specs.Prelude.{IfSome, IfNone};
 ghost use Rattle.flow_facts.specs.declared.fact.Fact.TheVariants.{Alarm};
 ghost use Rattle.domain_core.specs.Outlines.{shape_of};
 ghost use Rattle.flow_facts.specs.Reports.{reported};
@@ -27,8 +28,10 @@ pub fn told_of(
 ) -> Result<u64, Objection>
     requires shaped { IsShaped outline.now (reported report.now) }
     requires sized { four_recording.book_is_of outline.now run.now.book }
-    ensures { (past : List ℕ) → IsEntered four_recording outline.now run.now.book (run.now.last ∷ past) → run.now.cost ≡ run_cost (costs_of outline.now) (reverse (run.now.last ∷ past))
-        → TellEnd (shape_of outline.now) (costs_of outline.now) (reported report.now) (reverse (run.now.last ∷ past)) run.now.fault result }
+    ensures { (past : List ℕ) → IsEntered four_recording outline.now run.now.book (run.now.last ∷ past)
+        → run.now.cost ≡ run_cost (costs_of outline.now) (reverse (run.now.last ∷ past))
+        → TellEnd (shape_of outline.now) (costs_of outline.now) (reported report.now) (reverse (run.now.last ∷ past))
+        run.now.fault result }
 {
     if let Some(objection) = lacking(&report.facts, run.last, run.fault) {
         return Err(objection);

@@ -13,7 +13,8 @@ use alf_runs::{a_run_has_one_continuation, a_run_has_one_end};
 
 /// One thing is told of a replay: what is told of one run against one report is the same.
 pub fn a_replay_tells_one_thing()
-    ensures { (program : NumberedProgram) (nodes : List Node) (rows : List InputRow) (o : Outlined) (report : Reported) (values : List ℤ) → Differ nodes → (a b : Told)
+    ensures { (program : NumberedProgram) (nodes : List Node) (rows : List InputRow) (o : Outlined) (report : Reported)
+        (values : List ℤ) → Differ nodes → (a b : Told)
         → IsReplayed program nodes rows o report values a → IsReplayed program nodes rows o report values b → a ≡ b }
 {
     a_run_has_one_continuation();

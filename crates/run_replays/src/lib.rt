@@ -1,8 +1,8 @@
 //! One run of a program, held against the lines of a report.
 //!
-//! `replay` makes the one run from given values and counts it with the recorders of an exploration. It tells what the run
-//! costs, or the first thing that speaks against the report: a line, a missing alarm or a bound that the run does not keep.
-//! What it tells is defined in `specs/Replays`, and is one thing.
+//! `replay` makes the one run from given values and counts it with the recorders of an exploration. It tells what the
+//! run costs, or the first thing that speaks against the report: a line, a missing alarm or a bound that the run does
+//! not keep. What it tells is defined in `specs/Replays`, and is one thing.
 #![tactic(auto)]
 
 // The values.

@@ -37,7 +37,8 @@ fn breaks(outline: &Outline, books: &FourBooks, fact: &Fact) -> bool
     }
 }
 
-/// The number of the first line that the run of the books does not meet, if there is one. The first line has this number.
+/// The number of the first line that the run of the books does not meet, if there is one. The first line has this
+/// number.
 pub fn broken(outline: &Outline, books: &FourBooks, facts: &[Fact], first: u64) -> Option<u64>
     requires sized { AreSized outline.now (books_of books.now) }
     requires fit { All (λ f. FitsOutline (shape_of outline.now) f) facts.now }

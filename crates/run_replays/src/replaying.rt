@@ -28,12 +28,12 @@ use flow_graph::Graph;
 use report_objections::Objection;
 use std::alloc::{AllocError, Global};
 
-/// What the one run from these values costs, or the first thing that speaks against the report, which has the form that the
-/// outline asks for.
+/// What the one run from these values costs, or the first thing that speaks against the report, which has the form that
+/// the outline asks for.
 ///
-/// The order is: the values, then the run, which stops where a node passes its `dead` or `total` line;
-/// of a run that is over the alarm of its fault, the lines in order, the count bound and the path bound. Takes time by the run
-/// and by the lines, and no memory for the run but that of the machine and of the recorders. A run of more than 4,294,967,294
+/// The order is: the values, then the run, which stops where a node passes its `dead` or `total` line; of a run that is
+/// over the alarm of its fault, the lines in order, the count bound and the path bound. Takes time by the run and by
+/// the lines, and no memory for the run but that of the machine and of the recorders. A run of more than 4,294,967,294
 /// nodes is want of memory.
 pub fn replay(
     alloc: Global,
@@ -49,7 +49,9 @@ pub fn replay(
     requires outline { IsOutlineOf (plan_of graph.now) (shape_of outline.now) }
     requires shaped { IsShaped outline.now (reported report.now) }
     requires one_each { length values.now ≡ length rows.now }
-    ensures { IfOk result (λ told. TellsValues (seen checked.now) graph.now.nodes rows.now outline.now (reported report.now) values.now told) }
+    ensures { IfOk result
+        (λ told. TellsValues (seen checked.now) graph.now.nodes rows.now outline.now (reported report.now) values.now
+        told) }
 {
     active_frames_follow_the_call_path();
     if let Some(objection) = outside(rows, values)? {
@@ -75,7 +77,9 @@ fn told_of_run(
     requires outline { IsOutlineOf (plan_of graph.now) (shape_of outline.now) }
     requires words { AreWords rows.now words.now }
     requires shaped { IsShaped outline.now (reported report.now) }
-    ensures { IfOk result (λ told. TellsRun (seen checked.now) graph.now.nodes (start (seen checked.now) rows.now words.now) (shape_of outline.now) (costs_of outline.now) (reported report.now) told) }
+    ensures { IfOk result
+        (λ told. TellsRun (seen checked.now) graph.now.nodes (start (seen checked.now) rows.now words.now)
+        (shape_of outline.now) (costs_of outline.now) (reported report.now) told) }
 {
     let visits = allowed(alloc, outline, &report.facts)?;
     match walk::<FourRecorders>(alloc, checked, graph, outline, rows, words, visits)? {

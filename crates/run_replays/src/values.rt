@@ -11,8 +11,8 @@ use report_objections::Objection;
 use std::alloc::{AllocError, Global};
 use whole_numbers::Whole;
 
-/// That a value is outside of the range of its row, for the first one that is. 2^32 rows or more are want of memory, and
-/// nothing else is.
+/// That a value is outside of the range of its row, for the first one that is. 2^32 rows or more are want of memory,
+/// and nothing else is.
 pub fn outside(rows: &[InputRow], values: &[i64]) -> Result<Option<Objection>, AllocError>
     requires one_each { length values.now ≡ length rows.now }
     ensures none { IfOk result (λ outside. IfNone outside (AreWithin rows.now values.now)) }

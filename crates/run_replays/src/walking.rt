@@ -26,8 +26,8 @@ fn most_turns() -> u32
     4294967294
 }
 
-/// Makes the run whose inputs have these words, enters it in a book, and stops where a node would be there more often than
-/// it is allowed.
+/// Makes the run whose inputs have these words, enters it in a book, and stops where a node would be there more often
+/// than it is allowed.
 ///
 /// Keeps no trace: memory is that of the recorder and of the machine. A run of more than 4,294,967,294 nodes is want of
 /// memory, and no shorter one is, where no allocation is refused.
@@ -46,7 +46,9 @@ pub fn walk<R: Recorder>(
     requires outline { IsOutlineOf (plan_of graph.now) (shape_of outline.now) }
     requires suits { R.recording.suits outline.now }
     requires long { length allowed.items ≡ length outline.now.nodes }
-    ensures { IfOk result (λ walked. Walks R.recording (seen checked.now) graph.now outline.now (start (seen checked.now) rows.now words.now) allowed.items walked) }
+    ensures { IfOk result
+        (λ walked. Walks R.recording (seen checked.now) graph.now outline.now
+        (start (seen checked.now) rows.now words.now) allowed.items walked) }
 {
     checked.keeps();
     outline.kept();

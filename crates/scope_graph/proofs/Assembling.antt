@@ -82,7 +82,8 @@ module _ (plan : Plan) (ok : IsPlan plan) (table : List (List ℕ)) (back : List
     )
 
     -- kinds are those of headers
-    kind_is : (kind : ScopeKind) (h : ℕ) → h < length plan.places → IsKindAt plan back h (Some kind) → IsHeader plan kind h
+    kind_is : (kind : ScopeKind) (h : ℕ) → h < length plan.places → IsKindAt plan back h (Some kind)
+        → IsHeader plan kind h
     kind_is Call h low e = (low, e)
     kind_is Loop h low (other, (u, in_list)) = (u, noted.backs u h in_list)
 
@@ -102,7 +103,8 @@ module _ (plan : Plan) (ok : IsPlan plan) (table : List (List ℕ)) (back : List
       is_held s n low n_low held = (f.held s low).all n n_low (is_member (kind_of rows s) (header_of rows s) n held)
 
       -- each header has its scope
-      all_are : (kind : ScopeKind) (h : ℕ) → IsHeader plan kind h → (s : ℕ) × (s < length rows) × (kind_of rows s ≡ kind) × (header_of rows s ≡ h)
+      all_are : (kind : ScopeKind) (h : ℕ) → IsHeader plan kind h
+          → (s : ℕ) × (s < length rows) × (kind_of rows s ≡ kind) × (header_of rows s ≡ h)
       all_are kind h header = f.all kind h (header_low plan ok kind h header) (is_kind kind h header)
 
       -- the code's grid
@@ -117,7 +119,8 @@ module _ (plan : Plan) (ok : IsPlan plan) (table : List (List ℕ)) (back : List
           (root.0, root.1, is_held root.0 n root.1 low (subst (λ (kind : ScopeKind). InScope plan kind (header_of rows root.0) n) (sym root.2) (subst (λ (h : ℕ). InScope plan Call h n) (sym root.3) in_root)))
 
       -- the innermost is the smallest
-      own_is : (n b : ℕ) → n < length plan.places → IsInnermost (length rows) rows holds ranks None n (Some b) → (b < length rows) × IsSmallest plan (kind_of rows b) (header_of rows b) n
+      own_is : (n b : ℕ) → n < length plan.places → IsInnermost (length rows) rows holds ranks None n (Some b)
+          → (b < length rows) × IsSmallest plan (kind_of rows b) (header_of rows b) n
       own_is n b low (inside, candidate, latest) = (
         inside,
         latest_smallest plan ok ranks ranked (kind_of rows b) (header_of rows b) n (headers_are b inside) low (held_is b n inside candidate.0) (λ l g of_g in_g.
@@ -127,7 +130,8 @@ module _ (plan : Plan) (ok : IsPlan plan) (table : List (List ℕ)) (back : List
       )
 
       -- and the innermost other scope around a scope is its parent
-      parent_is : (s : ℕ) (parent : Option ℕ) → s < length rows → IsInnermost (length rows) rows holds ranks (Some s) (header_of rows s) parent → IsParent plan rows s parent
+      parent_is : (s : ℕ) (parent : Option ℕ) → s < length rows
+          → IsInnermost (length rows) rows holds ranks (Some s) (header_of rows s) parent → IsParent plan rows s parent
       parent_is s None low none = λ t t_low other within.
           let g = header_of rows s in
           let in_t = within g (f.below s low) (header_held plan ok (kind_of rows s) g) in
@@ -179,14 +183,17 @@ module _ (plan : Plan) (ok : IsPlan plan) (table : List (List ℕ)) (back : List
             old : (s : ℕ) → s < length scopes → s < length rows
             old s low = let l = p.long in omega arith
 
-            both : (P : ScopeKind → ℕ → Type 0) (s : ℕ) → s < length rows → P (kind_of rows s) (header_of rows s) → P (kind_of scopes s) (header_of scopes s)
+            both : (P : ScopeKind → ℕ → Type 0) (s : ℕ) → s < length rows → P (kind_of rows s) (header_of rows s)
+                → P (kind_of scopes s) (header_of scopes s)
             both P s low is = subst (λ (k : ScopeKind). P k (header_of scopes s)) (sym (p.kinds s low)) (subst (λ (h : ℕ). P (kind_of rows s) h) (sym (p.headers s low)) is)
 
         -- and the innermost are the same
         rank_same : (s : ℕ) → s < length rows → rank_of scopes ranks s ≡ rank_of rows ranks s
         rank_same s low = ap (λ (h : ℕ). get_or ranks h 0) (p.headers s low)
 
-        pub inner_same : (except : Option ℕ) (n : ℕ) (best : Option ℕ) → IsInnermost (length rows) rows holds ranks except n best → IsInnermost (length scopes) scopes holds ranks except n best
+        pub inner_same : (except : Option ℕ) (n : ℕ) (best : Option ℕ)
+            → IsInnermost (length rows) rows holds ranks except n best
+            → IsInnermost (length scopes) scopes holds ranks except n best
         inner_same except n None none = λ s low candidate. none s (let l = p.long in omega arith) candidate
         inner_same except n (Some b) (inside, candidate, latest) = (
           (let l = p.long in omega arith),
@@ -195,7 +202,8 @@ module _ (plan : Plan) (ok : IsPlan plan) (table : List (List ℕ)) (back : List
         )
 
 -- the parts make the outline
-pub whole : (plan : Plan) → IsPlan plan → (table : List (List ℕ)) (back : List (ℕ × ℕ)) → IsBackList (leads plan) back → ((u v : ℕ) → HasEdge table u v → leads plan v u) → ((u v : ℕ) → leads plan u v → HasEdge table v u)
+pub whole : (plan : Plan) → IsPlan plan → (table : List (List ℕ)) (back : List (ℕ × ℕ)) → IsBackList (leads plan) back
+    → ((u v : ℕ) → HasEdge table u v → leads plan v u) → ((u v : ℕ) → leads plan u v → HasEdge table v u)
     → (names : List (List ℕ)) (rows scopes : List ScopeRow) (holds : List (List Bool)) (ranks : List ℕ) (nodes : List NodeRow) → IsFound table back plan (length plan.places) rows holds → IsRanking (leads plan) (length plan.places) ranks
     → IsParented (length rows) rows holds ranks scopes → IsOwned (length plan.places) names rows holds ranks nodes
     → IsOutlineOf plan (record { edges = plan.edges; own = map (λ (row : NodeRow). row.scope) nodes; ranks = map (λ (row : NodeRow). row.rank) nodes; scopes = scopes })
@@ -236,5 +244,6 @@ pair_or_not (edge ∷ edges) u v = elim (pair_or_not edges u v) [
 ]
 
 -- so it is decided which edges lead back
-pub back_or_not : (Leads : ℕ → ℕ → Type 0) (back : List (ℕ × ℕ)) → IsBackList Leads back → (u v : ℕ) → Leads u v → Dominates Leads v u ⊎ (Dominates Leads v u → ⊥)
+pub back_or_not : (Leads : ℕ → ℕ → Type 0) (back : List (ℕ × ℕ)) → IsBackList Leads back → (u v : ℕ) → Leads u v
+    → Dominates Leads v u ⊎ (Dominates Leads v u → ⊥)
 back_or_not Leads back noted u v edge = elim (pair_or_not back u v) [ inl there ↦ inl (noted.backs u v there).1 | inr none ↦ inr (λ dominates. none (noted.all u v (edge, dominates))) ]

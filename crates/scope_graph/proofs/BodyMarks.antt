@@ -24,7 +24,8 @@ pub record IsMarking (table : List (List ℕ)) (back : List (ℕ × ℕ)) (h : �
 
 module _ (table : List (List ℕ)) (back : List (ℕ × ℕ)) (h : ℕ) where
   -- at first the header alone is marked
-  pub marking_first : h < length table → (seen : List Bool) → seen ≡ set (replicate (length table) false) h true → IsMarking table back h seen 0
+  pub marking_first : h < length table → (seen : List Bool) → seen ≡ set (replicate (length table) false) h true
+      → IsMarking table back h seen 0
   marking_first low seen is = subst (λ (xs : List Bool). IsMarking table back h xs 0) (sym is) (record {
     long = length-set (replicate (length table) false) h true ∙ length-replicate (length table) false;
     top = (let long = length-replicate (length table) false in marked_new (replicate (length table) false) h (omega arith));
@@ -38,7 +39,8 @@ module _ (table : List (List ℕ)) (back : List (ℕ × ℕ)) (h : ℕ) where
 
   module _ (seen : List Bool) (k : ℕ) (m : IsMarking table back h seen k) where
     -- one edge more is looked at
-    pub marking_over : ((get_or back k (0, 0)).1 ≡ h → IsMarked seen (get_or back k (0, 0)).0) → IsMarking table back h seen (k + 1)
+    pub marking_over : ((get_or back k (0, 0)).1 ≡ h → IsMarked seen (get_or back k (0, 0)).0)
+        → IsMarking table back h seen (k + 1)
     marking_over now = record {
       long = m.long;
       top = m.top;
@@ -51,7 +53,8 @@ module _ (table : List (List ℕ)) (back : List (ℕ × ℕ)) (h : ℕ) where
     }
 
     -- and its source is searched from
-    pub marking_more : (new : List Bool) → k < length back → (get_or back k (0, 0)).1 ≡ h → length new ≡ length seen → KeepsMarks seen new
+    pub marking_more : (new : List Bool) → k < length back → (get_or back k (0, 0)).1 ≡ h → length new ≡ length seen
+        → KeepsMarks seen new
         → ((n : ℕ) → IsMarked new n → IsMarked seen n ⊎ ReachesPast (HasEdge table) seen (get_or back k (0, 0)).0 n) → ((n : ℕ) → ReachesPast (HasEdge table) seen (get_or back k (0, 0)).0 n → IsMarked new n)
         → IsMarking table back h new (k + 1)
     marking_more new inside to long kept reached every = record {
@@ -80,7 +83,8 @@ module _ (table : List (List ℕ)) (back : List (ℕ × ℕ)) (h : ℕ) where
         source : ℕ
         source = (get_or back k (0, 0)).0
 
-        further : (n next : ℕ) → ReachesPast (HasEdge table) seen source n → HasEdge table n next → (IsMarked seen next → ⊥) → ReachesPast (HasEdge table) seen source next
+        further : (n next : ℕ) → ReachesPast (HasEdge table) seen source n → HasEdge table n next
+            → (IsMarked seen next → ⊥) → ReachesPast (HasEdge table) seen source next
         further n next way edge clear = record {
           path = way.path ++ next ∷ [];
           walk = goes_on way.walk edge;
@@ -95,10 +99,12 @@ module _ (table : List (List ℕ)) (back : List (ℕ × ℕ)) (h : ℕ) where
         }
 
   -- where all are looked at, the marks are done
-  pub marking_done : (seen : List Bool) (k : ℕ) → length back ≤ k → IsMarking table back h seen k → IsBackward table back h seen
+  pub marking_done : (seen : List Bool) (k : ℕ) → length back ≤ k → IsMarking table back h seen k
+      → IsBackward table back h seen
   marking_done seen k done m = record { long = m.long; marked = m.marked; all = all }
     where
-      along : (u n : ℕ) (path : List ℕ) → IsMarked seen u → Walk (HasEdge table) u n path → (Contains path h → ⊥) → IsMarked seen n
+      along : (u n : ℕ) (path : List ℕ) → IsMarked seen u → Walk (HasEdge table) u n path → (Contains path h → ⊥)
+          → IsMarked seen n
       along u n path first stays avoids = first
       along u n path first (goes_on {u = x} {v = v} {path = before} walk edge) avoids =
           let there = along u x before first walk (λ at. avoids (Contains-append_left before (v ∷ []) h at)) in
@@ -116,7 +122,8 @@ module _ (table : List (List ℕ)) (back : List (ℕ × ℕ)) (h : ℕ) where
 -- ---- along the edges again
 
 -- a walk read from its end
-pub turned : (Leads Other : ℕ → ℕ → Type 0) → ((u v : ℕ) → Leads u v → Other v u) → (a b : ℕ) (path : List ℕ) → Walk Leads a b path
+pub turned : (Leads Other : ℕ → ℕ → Type 0) → ((u v : ℕ) → Leads u v → Other v u) → (a b : ℕ) (path : List ℕ)
+    → Walk Leads a b path
     → (way : List ℕ) × Walk Other b a way × ((n : ℕ) → Contains way n → Contains path n)
 turned Leads Other to a b path stays = (a ∷ [], stays, λ n there. there)
 turned Leads Other to a b path (goes_on {u = u} {v = v} {path = before} walk edge) =
@@ -130,7 +137,8 @@ turned Leads Other to a b path (goes_on {u = u} {v = v} {path = before} walk edg
     )
 
 -- what is marked is the body of the loop
-pub body_marks : (plan : Plan) (table : List (List ℕ)) (back : List (ℕ × ℕ)) (h : ℕ) (seen : List Bool) → IsBackList (leads plan) back
+pub body_marks : (plan : Plan) (table : List (List ℕ)) (back : List (ℕ × ℕ)) (h : ℕ) (seen : List Bool)
+    → IsBackList (leads plan) back
     → ((u v : ℕ) → HasEdge table u v → leads plan v u) → ((u v : ℕ) → leads plan u v → HasEdge table v u) → IsBackward table back h seen
     → ((n : ℕ) → IsMarked seen n → IsBody plan h n) × ((n : ℕ) → IsBody plan h n → IsMarked seen n)
 body_marks plan table back h seen noted there all b = (is_body, has_body)

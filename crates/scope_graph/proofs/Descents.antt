@@ -17,11 +17,13 @@ use Rattle.graph_walks.specs.MarkedNodeLaws.{both, none_marked, marked_kept, mar
 
 -- ---- what is noted and left stays so
 
-looked_kept : (table : List (List ℕ)) (back more : List (ℕ × ℕ)) (order : List ℕ) (u v : ℕ) → ((a b : ℕ) → Contains back (a, b) → Contains more (a, b))
+looked_kept : (table : List (List ℕ)) (back more : List (ℕ × ℕ)) (order : List ℕ) (u v : ℕ)
+    → ((a b : ℕ) → Contains back (a, b) → Contains more (a, b))
     → IsLooked table back order u v → IsLooked table more order u v
 looked_kept table back more order u v kept l = (elim l.0 [ inl a ↦ inl (kept u v a) | inr b ↦ inr b ], λ dominates. kept u v (l.1 dominates))
 
-settled_kept : (table : List (List ℕ)) (back more : List (ℕ × ℕ)) (order : List ℕ) → ((a b : ℕ) → Contains back (a, b) → Contains more (a, b))
+settled_kept : (table : List (List ℕ)) (back more : List (ℕ × ℕ)) (order : List ℕ)
+    → ((a b : ℕ) → Contains back (a, b) → Contains more (a, b))
     → IsSettled table back order → IsSettled table more order
 settled_kept table back more [] kept s = tt
 settled_kept table back more (u ∷ order) kept s = (λ v edge. looked_kept table back more order u v kept (s.0 v edge), settled_kept table back more order kept s.1)
@@ -38,11 +40,14 @@ module _ (table : List (List ℕ)) where
     pub descent : IsDescent table seen (before ++ node ∷ []) more order
     pub kept : (n : ℕ) → IsMarked old n → IsMarked seen n
     pub noted : (u h : ℕ) → Contains back (u, h) → Contains more (u, h)
-    pub seen_all : (v : ℕ) → Contains looked v → (Contains more (node, v) ⊎ (IsMarked seen v × (Contains (before ++ node ∷ []) v → ⊥))) × (Dominates (HasEdge table) v node → Contains more (node, v))
+    pub seen_all : (v : ℕ) → Contains looked v
+        → (Contains more (node, v) ⊎ (IsMarked seen v × (Contains (before ++ node ∷ []) v → ⊥)))
+        × (Dominates (HasEdge table) v node → Contains more (node, v))
 
   module _ (node : ℕ) (old : List Bool) (before : List ℕ) (back : List (ℕ × ℕ)) where
     -- at first, the node stands on the path
-    pub descend_first : (order : List ℕ) → IsDescent table old before back order → get_or old node false ≡ false → node < length old
+    pub descend_first : (order : List ℕ) → IsDescent table old before back order → get_or old node false ≡ false
+        → node < length old
         → IsDescending node old (set old node true) before (before ++ node ∷ []) back back []
     descend_first order d clear inside = record {
       path_is = refl;
@@ -69,7 +74,8 @@ module _ (table : List (List ℕ)) where
       not_on_path clear there = both seen next clear (d.descent.on_path next there)
 
       -- it is visited
-      pub descend_on : (seen_new : List Bool) (path_new : List ℕ) (most : List (ℕ × ℕ)) → get_or seen next false ≡ false → Walk (HasEdge table) 0 node (before ++ node ∷ [])
+      pub descend_on : (seen_new : List Bool) (path_new : List ℕ) (most : List (ℕ × ℕ)) → get_or seen next false ≡ false
+          → Walk (HasEdge table) 0 node (before ++ node ∷ [])
           → IsVisited table next seen seen_new path path_new more most → IsDescending node old seen_new before path_new back most (looked ++ next ∷ [])
       descend_on seen_new path_new most clear walk v = record {
         path_is = v.same ∙ d.path_is;
@@ -85,7 +91,8 @@ module _ (table : List (List ℕ)) where
       }
 
       -- the edge to it is looked at
-      pub descend_over : (most : List (ℕ × ℕ)) → IsMarked seen next → HasEdge table node next → Walk (HasEdge table) 0 node path → IsChecked table path node next more most
+      pub descend_over : (most : List (ℕ × ℕ)) → IsMarked seen next → HasEdge table node next
+          → Walk (HasEdge table) 0 node path → IsChecked table path node next more most
           → IsDescending node old seen before path back most (looked ++ next ∷ [])
       descend_over most is edge walk (inl (dominates, e)) = subst (λ (xs : List (ℕ × ℕ)). IsDescending node old seen before path back xs (looked ++ next ∷ [])) (sym e) (record {
         path_is = d.path_is;
@@ -125,7 +132,8 @@ module _ (table : List (List ℕ)) where
       })
 
     -- where all are looked at, the node is left
-    pub descend_all : (seen : List Bool) (path after : List ℕ) (more : List (ℕ × ℕ)) → IsDescending node old seen before path back more (get_or table node []) → after ≡ before
+    pub descend_all : (seen : List Bool) (path after : List ℕ) (more : List (ℕ × ℕ))
+        → IsDescending node old seen before path back more (get_or table node []) → after ≡ before
         → IsVisited table node old seen before after back more
     descend_all seen path after more d same = record {
       order = node ∷ d.order;
@@ -158,7 +166,8 @@ module _ (table : List (List ℕ)) where
   -- ---- a crossing
 
   -- the path cut at a node with an edge from its end, and a walk round that node
-  pub crossing_cut : (path to_header to_tail around : List ℕ) (node next at : ℕ) → Walk (HasEdge table) 0 node path → IsDistinct path → HasEdge table node next → at < length path
+  pub crossing_cut : (path to_header to_tail around : List ℕ) (node next at : ℕ) → Walk (HasEdge table) 0 node path
+      → IsDistinct path → HasEdge table node next → at < length path
       → get_or path at 0 ≡ next → IsAround table node next around → to_header ≡ take (at + 1) path → to_tail ≡ drop at path → IsCrossing (HasEdge table) to_header to_tail around
   crossing_cut path to_header to_tail around node next at walk once edge low is round header tail =
       let front = take at path in
@@ -256,7 +265,8 @@ height_old x done n e = rw e refl
 height_new : (x : ℕ) (done : List ℕ) → (height done x == 0) ≡ true → height (x ∷ done) x ≡ suc (length done)
 height_new x done e = rw (e, eq-eqb x x refl) refl
 
-height_other : (x : ℕ) (done : List ℕ) (n : ℕ) → (height done n == 0) ≡ true → (x == n) ≡ false → height (x ∷ done) n ≡ 0
+height_other : (x : ℕ) (done : List ℕ) (n : ℕ) → (height done n == 0) ≡ true → (x == n) ≡ false
+    → height (x ∷ done) n ≡ 0
 height_other x done n e other = rw (e, other) refl
 
 height_low : (done : List ℕ) (n : ℕ) → height done n ≤ length done
@@ -292,7 +302,8 @@ left_height (x ∷ done) n e =
 
 module _ (table : List (List ℕ)) (back : List (ℕ × ℕ)) where
   -- numbers fall along an edge that is not noted
-  edge_falls : (done : List ℕ) → IsSettled table back done → (u v : ℕ) → Contains done u → HasEdge table u v → Contains back (u, v) ⊎ (Contains done v × (height done v < height done u))
+  edge_falls : (done : List ℕ) → IsSettled table back done → (u v : ℕ) → Contains done u → HasEdge table u v
+      → Contains back (u, v) ⊎ (Contains done v × (height done v < height done u))
   edge_falls [] s u v there edge = absurd (no_member u there)
   edge_falls (x ∷ done) s u v there edge =
       by_test (height done u == 0)

@@ -33,7 +33,8 @@ is_noted_is (other ∷ back) edge there = first_or_further other back edge there
     (λ more. let again = is_noted_is back edge more in by_test ((other.0 == edge.0) && (other.1 == edge.1)) (λ here. rw here refl) (λ further. rw (further, again) refl))
 
 -- the edges that pass a test
-passing : (passes : ℕ × ℕ → Bool) (edges : List (ℕ × ℕ)) (edge : ℕ × ℕ) → Contains (filter passes edges) edge → Contains edges edge × (passes edge ≡ true)
+passing : (passes : ℕ × ℕ → Bool) (edges : List (ℕ × ℕ)) (edge : ℕ × ℕ) → Contains (filter passes edges) edge
+    → Contains edges edge × (passes edge ≡ true)
 passing passes [] edge there = no_member edge there
 passing passes (e ∷ edges) edge there = by_test (passes e)
     (λ is. first_or_further e (filter passes edges) edge (rw is at there)
@@ -41,7 +42,8 @@ passing passes (e ∷ edges) edge there = by_test (passes e)
     (λ more. let r = passing passes edges edge more in (further_member e edges edge r.0, r.1)))
     (λ no_pass. let r = passing passes edges edge (rw no_pass at there) in (further_member e edges edge r.0, r.1))
 
-passed : (passes : ℕ × ℕ → Bool) (edges : List (ℕ × ℕ)) (edge : ℕ × ℕ) → Contains edges edge → passes edge ≡ true → Contains (filter passes edges) edge
+passed : (passes : ℕ × ℕ → Bool) (edges : List (ℕ × ℕ)) (edge : ℕ × ℕ) → Contains edges edge → passes edge ≡ true
+    → Contains (filter passes edges) edge
 passed passes [] edge there is = no_member edge there
 passed passes (e ∷ edges) edge there is = first_or_further e edges edge there
     (λ same. let now : passes e ≡ true = ap passes same ∙ is in rw now (subst (λ (x : ℕ × ℕ). Contains (e ∷ filter passes edges) x) same (first_member e (filter passes edges))))
@@ -69,7 +71,8 @@ module _ (edges back : List (ℕ × ℕ)) (noted : IsBackList (IsEdge edges) bac
     forward_all u n forward = t.all n u (edge_flip (filter (is_forward back) edges) u n (is_forward_edge u n forward))
 
     -- numbers fall along them
-    pub forward_falls : (number : ℕ → ℕ) → IsFalling (IsEdge edges) number → (u n : ℕ) → Into table u n → number n < number u
+    pub forward_falls : (number : ℕ → ℕ) → IsFalling (IsEdge edges) number → (u n : ℕ) → Into table u n
+        → number n < number u
     forward_falls number falls u n there =
         let forward = forward_there u n there in
         elim (falls u n forward.0) [ inl over ↦ absurd (forward.1 over) | inr lower ↦ lower ]

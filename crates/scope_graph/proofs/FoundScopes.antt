@@ -14,12 +14,14 @@ use Rattle.scope_graph.specs.Members.{MarksExactly, IsTaken}
 use Rattle.scope_graph.specs.Found.{IsKindAt, IsMember, IsFound}
 
 -- marks that say the same
-pub marks_same : (count : ℕ) (P Q : ℕ → Type 0) (marks : List Bool) → ((n : ℕ) → P n → Q n) → ((n : ℕ) → Q n → P n) → MarksExactly count P marks → MarksExactly count Q marks
+pub marks_same : (count : ℕ) (P Q : ℕ → Type 0) (marks : List Bool) → ((n : ℕ) → P n → Q n) → ((n : ℕ) → Q n → P n)
+    → MarksExactly count P marks → MarksExactly count Q marks
 marks_same count P Q marks to from m = record { long = m.long; yes = λ n is. to n (m.yes n is); all = λ n low q. m.all n low (from n q) }
 
 module _ (table : List (List ℕ)) (back : List (ℕ × ℕ)) (plan : Plan) where
   -- a node that is reached against the edges is one of them
-  pub returns_low : (count h n : ℕ) → ((u v : ℕ) → HasEdge table u v → v < count) → ((u g : ℕ) → Contains back (u, g) → u < count) → ReturnsBack table back h n → n < count
+  pub returns_low : (count h n : ℕ) → ((u v : ℕ) → HasEdge table u v → v < count)
+      → ((u g : ℕ) → Contains back (u, g) → u < count) → ReturnsBack table back h n → n < count
   returns_low count h n closed sources r = on_walk r.source n r.path (sources r.source h r.noted) r.walk
     where
       on_walk : (u m : ℕ) (path : List ℕ) → u < count → Walk (HasEdge table) u m path → m < count
@@ -27,7 +29,8 @@ module _ (table : List (List ℕ)) (back : List (ℕ × ℕ)) (plan : Plan) wher
       on_walk u m path low (goes_on {u = x} {v = v} {path = before} walk edge) = closed x v edge
 
   -- the marks of a loop's members
-  pub loop_marks : (count h : ℕ) (body marks : List Bool) → IsBackward table back h body → MarksExactly count (IsTaken plan body) marks → MarksExactly count (IsMember table back plan Loop h) marks
+  pub loop_marks : (count h : ℕ) (body marks : List Bool) → IsBackward table back h body
+      → MarksExactly count (IsTaken plan body) marks → MarksExactly count (IsMember table back plan Loop h) marks
   loop_marks count h body marks b m =
       marks_same count (IsTaken plan body) (IsMember table back plan Loop h) marks (λ n taken. (taken.0, b.marked taken.0 taken.1, taken.2)) (λ n member. (member.0, b.all member.0 member.1, member.2)) m
 
@@ -47,14 +50,17 @@ module _ (table : List (List ℕ)) (back : List (ℕ × ℕ)) (plan : Plan) wher
         no_kind Call is = none.0 is
         no_kind Loop is = none.1 is.1
 
-        all : (kind : ScopeKind) (h : ℕ) → h < bound + 1 → IsKindAt plan back h (Some kind) → (s : ℕ) × (s < length rows) × (kind_of rows s ≡ kind) × (header_of rows s ≡ h)
+        all : (kind : ScopeKind) (h : ℕ) → h < bound + 1 → IsKindAt plan back h (Some kind)
+            → (s : ℕ) × (s < length rows) × (kind_of rows s ≡ kind) × (header_of rows s ≡ h)
         all kind h low is = elim (cases_lt h bound) [
           | inl old ↦ f.all kind h old is
           | inr new ↦ let same : h ≡ bound = omega arith in absurd (no_kind kind (subst (λ (n : ℕ). IsKindAt plan back n (Some kind)) same is))
         ]
 
     -- a scope is found
-    pub found_more : (row : ScopeRow) (marks : List Bool) → row.header ≡ bound → IsKindAt plan back bound (Some row.kind) → MarksExactly (length plan.places) (IsMember table back plan row.kind bound) marks
+    pub found_more : (row : ScopeRow) (marks : List Bool) → row.header ≡ bound
+        → IsKindAt plan back bound (Some row.kind)
+        → MarksExactly (length plan.places) (IsMember table back plan row.kind bound) marks
         → IsFound table back plan (bound + 1) (rows ++ row ∷ []) (holds ++ marks ∷ [])
     found_more row marks top is exact = record {
       long = (let l = f.long in let a = length_push rows row in let b = length_push holds marks in omega arith);
@@ -89,7 +95,8 @@ module _ (table : List (List ℕ)) (back : List (ℕ × ℕ)) (plan : Plan) wher
         held_new : get_or (holds ++ marks ∷ []) (length rows) [] ≡ marks
         held_new = get_or_push holds marks [] (length rows) f.long
 
-        cases : (P : ℕ → Type 0) (s : ℕ) → s < length (rows ++ row ∷ []) → (s < length rows → P s) → P (length rows) → P s
+        cases : (P : ℕ → Type 0) (s : ℕ) → s < length (rows ++ row ∷ []) → (s < length rows → P s) → P (length rows)
+            → P s
         cases P s low old new = elim (cases_lt s (length rows)) [
           | inl a ↦ old a
           | inr past ↦ let longer = length_push rows row in let e : length rows ≡ s = omega arith in subst P e new

@@ -9,7 +9,8 @@ use Rattle.lists.specs.TestLaws.{by_test}
 use Rattle.graph_walks.specs.MarkedNodeLaws.{marked_low}
 
 -- one more
-pub marks_more : (P : ℕ → Type 0) (count : ℕ) (marks : List Bool) (v : Bool) → MarksExactly count P marks → (v ≡ true → P count) → (v ≡ false → P count → ⊥) → MarksExactly (count + 1) P (marks ++ v ∷ [])
+pub marks_more : (P : ℕ → Type 0) (count : ℕ) (marks : List Bool) (v : Bool) → MarksExactly count P marks
+    → (v ≡ true → P count) → (v ≡ false → P count → ⊥) → MarksExactly (count + 1) P (marks ++ v ∷ [])
 marks_more P count marks v m if_true if_false = record {
   long = (let l = m.long in let more = length_push marks v in omega arith);
   yes = λ n is. elim (cases_lt n count) [
@@ -33,7 +34,8 @@ marks_more P count marks v m if_true if_false = record {
     at_end n e = get_or_push marks v false n (m.long ∙ sym e)
 
 -- a node is taken where it is marked or called
-pub taken_tells : (plan : Plan) (body : List Bool) (n : ℕ) (mark called : Bool) → get_or body n false ≡ mark → Tells called (IsCalled plan body n) → Tells (mark || called) (IsTaken plan body n)
+pub taken_tells : (plan : Plan) (body : List Bool) (n : ℕ) (mark called : Bool) → get_or body n false ≡ mark
+    → Tells called (IsCalled plan body n) → Tells (mark || called) (IsTaken plan body n)
 taken_tells plan body n true called at tells = (λ e. (n, at, inl refl), λ e. absurd (false≢true (sym e)))
 taken_tells plan body n false called at tells = (
   λ e. let far = tells.0 e in (far.0, far.1, inr far.2),

@@ -30,7 +30,8 @@ Ascends [] = ⊤
 Ascends (p ∷ ps) = ((q : Mark) → Contains ps q → p.1 < q.1) × Ascends ps
 
 -- two lists that ascend and have the same members are the same
-one_list : (ps qs : List Mark) → Ascends ps → Ascends qs → ((p : Mark) → Contains ps p → Contains qs p) → ((p : Mark) → Contains qs p → Contains ps p) → ps ≡ qs
+one_list : (ps qs : List Mark) → Ascends ps → Ascends qs → ((p : Mark) → Contains ps p → Contains qs p)
+    → ((p : Mark) → Contains qs p → Contains ps p) → ps ≡ qs
 one_list [] [] a b forth back = refl
 one_list [] (q ∷ qs) a b forth back = no_member q (back q (first_member q qs))
 one_list (p ∷ ps) [] a b forth back = no_member p (forth p (first_member p ps))
@@ -51,7 +52,8 @@ one_list (p ∷ ps) (q ∷ qs) a b forth back = ap (λ (x : Mark). x ∷ ps) sam
         (λ d. d)
 
 -- scopes in the order of their headers ascend
-ascends : (rows : List ScopeRow) → ((s t : ℕ) → s < t → t < length rows → header_of rows s < header_of rows t) → Ascends (map mark rows)
+ascends : (rows : List ScopeRow) → ((s t : ℕ) → s < t → t < length rows → header_of rows s < header_of rows t)
+    → Ascends (map mark rows)
 ascends [] h = tt
 ascends (row ∷ rows) h = (
   λ q c.
@@ -87,7 +89,8 @@ module _ (plan : Plan) (ok : IsPlan plan) where
 
   module _ (o : Shape) (d : IsOutlineOf plan o) where
     -- two scopes that lie in one another have one header
-    one_header : (k l : ScopeKind) (g h : ℕ) → IsHeader plan k g → IsHeader plan l h → IsInside plan k g l h → IsInside plan l h k g → g ≡ h
+    one_header : (k l : ScopeKind) (g h : ℕ) → IsHeader plan k g → IsHeader plan l h → IsInside plan k g l h
+        → IsInside plan l h k g → g ≡ h
     one_header k l g h kg lh in_h in_g =
         elim (same_or_not g h) [
           | inl is ↦ is
@@ -102,7 +105,8 @@ module _ (plan : Plan) (ok : IsPlan plan) where
         ]
 
     -- a header has one scope
-    one_scope : (s t : ℕ) → s < length o.scopes → t < length o.scopes → header_of o.scopes s ≡ header_of o.scopes t → s ≡ t
+    one_scope : (s t : ℕ) → s < length o.scopes → t < length o.scopes → header_of o.scopes s ≡ header_of o.scopes t
+        → s ≡ t
     one_scope s t s_low t_low is =
         elim (same_or_not s t) [
           | inl same ↦ same
@@ -128,17 +132,20 @@ module _ (plan : Plan) (ok : IsPlan plan) (o other : Shape) (d : IsOutlineOf pla
       sym (get_or-map mark o.scopes i no_scope (mark no_scope) low) ∙ ap (λ (l : List Mark). get_or l i (mark no_scope)) marks_same ∙ get_or-map mark other.scopes i no_scope (mark no_scope) low_too
 
   -- what lies in what is the same
-  inside_back : (s t : ℕ) → s < length o.scopes → t < length o.scopes → scope_inside plan other.scopes s t → scope_inside plan o.scopes s t
+  inside_back : (s t : ℕ) → s < length o.scopes → t < length o.scopes → scope_inside plan other.scopes s t
+      → scope_inside plan o.scopes s t
   inside_back s t s_low t_low within =
       subst (λ (m : Mark). IsInside plan m.0 m.1 (kind_of o.scopes t) (header_of o.scopes t)) (sym (mark_same s s_low))
       (subst (λ (m : Mark). IsInside plan (kind_of other.scopes s) (header_of other.scopes s) m.0 m.1) (sym (mark_same t t_low)) within)
 
-  inside_forth : (s t : ℕ) → s < length o.scopes → t < length o.scopes → scope_inside plan o.scopes s t → scope_inside plan other.scopes s t
+  inside_forth : (s t : ℕ) → s < length o.scopes → t < length o.scopes → scope_inside plan o.scopes s t
+      → scope_inside plan other.scopes s t
   inside_forth s t s_low t_low within =
       subst (λ (m : Mark). IsInside plan m.0 m.1 (kind_of other.scopes t) (header_of other.scopes t)) (mark_same s s_low)
       (subst (λ (m : Mark). IsInside plan (kind_of o.scopes s) (header_of o.scopes s) m.0 m.1) (mark_same t t_low) within)
 
-  parents_are : (s : ℕ) → s < length o.scopes → (a b : Option ℕ) → IsParent plan o.scopes s a → IsParent plan other.scopes s b → a ≡ b
+  parents_are : (s : ℕ) → s < length o.scopes → (a b : Option ℕ) → IsParent plan o.scopes s a
+      → IsParent plan other.scopes s b → a ≡ b
   parents_are s low None None h k = refl
   parents_are s low None (Some p) h k = absurd (let p_low : p < length o.scopes = let same = long_same in let is = k.0 in omega arith in h p p_low k.1 (inside_back s p low p_low k.2))
   parents_are s low (Some p) None h k = absurd (k p (let same = long_same in let is = h.0 in omega arith) h.1 (inside_forth s p low h.0 h.2))

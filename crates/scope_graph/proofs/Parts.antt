@@ -64,14 +64,18 @@ module _ (graph : GraphParts) where
   within_is plan u v edge = let same = as_many graph in let low = plan.within u v edge in (let a = low.0 in omega arith, let b = low.1 in omega arith)
 
   -- the table of predecessors has its edges
-  pub there_of : (edges : List (ℕ × ℕ)) (table : List (List ℕ)) (count : ℕ) → edges ≡ graph.edges → IsTable (map flip edges) count table → (u v : ℕ) → HasEdge table u v → leads (plan_of graph) v u
+  pub there_of : (edges : List (ℕ × ℕ)) (table : List (List ℕ)) (count : ℕ) → edges ≡ graph.edges
+      → IsTable (map flip edges) count table → (u v : ℕ) → HasEdge table u v → leads (plan_of graph) v u
   there_of edges table count e t u v there = flip_edge graph.edges u v (subst (λ (es : List (ℕ × ℕ)). IsEdge (map flip es) u v) e (t.there u v there))
 
-  pub all_of : (edges : List (ℕ × ℕ)) (table : List (List ℕ)) (count : ℕ) → edges ≡ graph.edges → IsTable (map flip edges) count table → (u v : ℕ) → leads (plan_of graph) u v → HasEdge table v u
+  pub all_of : (edges : List (ℕ × ℕ)) (table : List (List ℕ)) (count : ℕ) → edges ≡ graph.edges
+      → IsTable (map flip edges) count table → (u v : ℕ) → leads (plan_of graph) u v → HasEdge table v u
   all_of edges table count e t u v edge = t.all v u (subst (λ (es : List (ℕ × ℕ)). IsEdge (map flip es) v u) (sym e) (edge_flip graph.edges u v edge))
 
   -- ranks of the code's edges are those of the graph
-  pub ranked_of : (edges : List (ℕ × ℕ)) (ranks : List ℕ) → edges ≡ graph.edges → IsRanking (IsEdge edges) (length graph.nodes) ranks → IsRanking (leads (plan_of graph)) (length (plan_of graph).places) ranks
+  pub ranked_of : (edges : List (ℕ × ℕ)) (ranks : List ℕ) → edges ≡ graph.edges
+      → IsRanking (IsEdge edges) (length graph.nodes) ranks
+      → IsRanking (leads (plan_of graph)) (length (plan_of graph).places) ranks
   ranked_of edges ranks e r =
       subst (λ (n : ℕ). IsRanking (IsEdge graph.edges) n ranks) (sym (as_many graph)) (subst (λ (es : List (ℕ × ℕ)). IsRanking (IsEdge es) (length graph.nodes) ranks) e r)
 

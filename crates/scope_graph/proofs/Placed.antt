@@ -43,12 +43,14 @@ pub extends_from : (path front rest : List ℕ) → path ≡ front ++ rest → E
 extends_from path front rest is = (reverse rest, ap (λ (xs : List ℕ). reverse xs) is ∙ reverse-append front rest)
 
 -- and back
-pub from_extends : (path front : List ℕ) → Extends (reverse path) (reverse front) → (rest : List ℕ) × (path ≡ front ++ rest)
+pub from_extends : (path front : List ℕ) → Extends (reverse path) (reverse front)
+    → (rest : List ℕ) × (path ≡ front ++ rest)
 from_extends path front (calls, is) =
     (reverse calls, sym (reverse-reverse path) ∙ ap (λ (xs : List ℕ). reverse xs) is ∙ reverse-append calls (reverse front) ∙ ap (λ (xs : List ℕ). xs ++ reverse calls) (reverse-reverse front))
 
 -- one that begins with another and then a call
-pub call_from : (path front : List ℕ) (call : ℕ) → (rest : List ℕ) → path ≡ front ++ rest → length front < length path → get_or path (length front) 0 ≡ call → Extends (reverse path) (call ∷ reverse front)
+pub call_from : (path front : List ℕ) (call : ℕ) → (rest : List ℕ) → path ≡ front ++ rest → length front < length path
+    → get_or path (length front) 0 ≡ call → Extends (reverse path) (call ∷ reverse front)
 call_from path front call [] is longer at = absurd (let same : length path ≡ length (front ++ []) = ap length is in let more = length-append front [] in omega arith)
 call_from path front call (x ∷ rest) is longer at =
     let first : x ≡ call = sym (get_or_at front x rest 0 (length front) refl) ∙ ap (λ (xs : List ℕ). get_or xs (length front) 0) (sym is) ∙ at in

@@ -8,7 +8,8 @@ use Rattle.lists.specs.TestLaws.{by_test}
 
 -- ---- how many have no rank
 
-missing_here : (count rank : ℕ) (ranks : List ℕ) → rank ≡ count → missing count (rank ∷ ranks) ≡ suc (missing count ranks)
+missing_here : (count rank : ℕ) (ranks : List ℕ) → rank ≡ count
+    → missing count (rank ∷ ranks) ≡ suc (missing count ranks)
 missing_here count rank ranks e = rw (eq-eqb rank count e) refl
 
 missing_not : (count rank : ℕ) (ranks : List ℕ) → rank ≢ count → missing count (rank ∷ ranks) ≡ missing count ranks
@@ -20,7 +21,8 @@ missing_all count zero = refl
 missing_all count (suc n) = missing_here count count (replicate n count) refl ∙ ap (λ (k : ℕ). suc k) (missing_all count n)
 
 -- one fewer where a rank is given
-missing_set : (count r : ℕ) (ranks : List ℕ) (n : ℕ) → n < length ranks → get_or ranks n 0 ≡ count → r < count → suc (missing count (set ranks n r)) ≡ missing count ranks
+missing_set : (count r : ℕ) (ranks : List ℕ) (n : ℕ) → n < length ranks → get_or ranks n 0 ≡ count → r < count
+    → suc (missing count (set ranks n r)) ≡ missing count ranks
 missing_set count r [] n low is below = absurd (omega arith)
 missing_set count r (rank ∷ ranks) zero low is below =
     ap (λ (k : ℕ). suc k) (missing_not count r ranks (let other : r ≢ count = omega arith in other)) ∙ sym (missing_here count rank ranks is)
@@ -31,7 +33,8 @@ missing_set count r (rank ∷ ranks) (suc n) low is below =
     (λ e. let other : rank ≢ count = (λ same. let k : true ≡ false = sym (eq-eqb rank count same) ∙ e in cc) in let a = missing_not count rank ranks other in let b = missing_not count rank (set ranks n r) other in omega arith)
 
 -- where none is missing, no node is without
-missing_none : (count : ℕ) (ranks : List ℕ) → missing count ranks ≡ 0 → (n : ℕ) → n < length ranks → get_or ranks n 0 ≢ count
+missing_none : (count : ℕ) (ranks : List ℕ) → missing count ranks ≡ 0 → (n : ℕ) → n < length ranks
+    → get_or ranks n 0 ≢ count
 missing_none count [] none n low = absurd (omega arith)
 missing_none count (rank ∷ ranks) none zero low = λ is. let more = missing_here count rank ranks is in absurd (omega arith)
 missing_none count (rank ∷ ranks) none (suc n) low =
@@ -40,7 +43,8 @@ missing_none count (rank ∷ ranks) none (suc n) low =
     (λ e. let other : rank ≢ count = (λ same. let k : true ≡ false = sym (eq-eqb rank count same) ∙ e in cc) in let same = missing_not count rank ranks other in missing_none count ranks (let z : missing count ranks ≡ 0 = omega arith in z) n (omega arith))
 
 -- where one is missing, some node is without
-some_missing : (count : ℕ) (ranks : List ℕ) → 0 < missing count ranks → (n : ℕ) × (n < length ranks) × (get_or ranks n 0 ≡ count)
+some_missing : (count : ℕ) (ranks : List ℕ) → 0 < missing count ranks
+    → (n : ℕ) × (n < length ranks) × (get_or ranks n 0 ≡ count)
 some_missing count [] some = absurd (omega arith)
 some_missing count (rank ∷ ranks) some =
     by_test (rank == count)
@@ -73,7 +77,8 @@ module _ (count : ℕ) (ranks : List ℕ) (number : ℕ → ℕ) where
 
 module _ (Before : ℕ → ℕ → Type 0) (count r : ℕ) (ranks : List ℕ) (s : IsStage Before count r ranks) where
   -- not all can wait
-  pub some_ready : r < count → ((u v : ℕ) → Before u v → u < count) → (number : ℕ → ℕ) → ((u v : ℕ) → Before u v → number v < number u)
+  pub some_ready : r < count → ((u v : ℕ) → Before u v → u < count) → (number : ℕ → ℕ)
+      → ((u v : ℕ) → Before u v → number v < number u)
       → ((n : ℕ) → n < count → get_or ranks n 0 ≡ count → IsDue Before (λ k. get_or ranks k 0) r n → ⊥) → ⊥
   some_ready below within number falls none =
       elim (top_missing count ranks number count) [
@@ -98,14 +103,16 @@ module _ (Before : ℕ → ℕ → Type 0) (count r : ℕ) (ranks : List ℕ) (s
     same_or_not m n = elim (cases_lt m n) [ inl low ↦ inr (λ e. omega arith) | inr high ↦ elim (cases_lt n m) [ inl low ↦ inr (λ e. omega arith) | inr same ↦ inl (omega arith) ] ]
 
     -- what was ready below is ready still, and the other way
-    ready_still : (k n : ℕ) → k ≤ r → IsDue Before (λ m. get_or ranks m 0) k n → IsDue Before (λ m. get_or (set ranks x r) m 0) k n
+    ready_still : (k n : ℕ) → k ≤ r → IsDue Before (λ m. get_or ranks m 0) k n
+        → IsDue Before (λ m. get_or (set ranks x r) m 0) k n
     ready_still k n low ready u forward =
         let was = ready u forward in
         let free = c.open_still in
         let other : u ≢ x = (λ e. let is : get_or ranks u 0 ≡ get_or ranks x 0 = ap (λ (m : ℕ). get_or ranks m 0) e in absurd (omega arith)) in
         rw (still u other) was
 
-    ready_before : (k n : ℕ) → k ≤ r → IsDue Before (λ m. get_or (set ranks x r) m 0) k n → IsDue Before (λ m. get_or ranks m 0) k n
+    ready_before : (k n : ℕ) → k ≤ r → IsDue Before (λ m. get_or (set ranks x r) m 0) k n
+        → IsDue Before (λ m. get_or ranks m 0) k n
     ready_before k n low ready u forward =
         let is = ready u forward in
         elim (same_or_not u x) [
@@ -134,7 +141,8 @@ module _ (Before : ℕ → ℕ → Type 0) (count r : ℕ) (ranks : List ℕ) (s
       least = least;
     }
       where
-        once : (m n : ℕ) → m < n → n < count → get_or (set ranks x r) n 0 < suc r → get_or (set ranks x r) m 0 ≢ get_or (set ranks x r) n 0
+        once : (m n : ℕ) → m < n → n < count → get_or (set ranks x r) n 0 < suc r
+            → get_or (set ranks x r) m 0 ≢ get_or (set ranks x r) n 0
         once m n before inside low e =
             elim (same_or_not n x) [
               | inl same_n ↦
@@ -151,7 +159,8 @@ module _ (Before : ℕ → ℕ → Type 0) (count r : ℕ) (ranks : List ℕ) (s
                   ]
             ]
 
-        least : (m n : ℕ) → m < n → n < count → get_or (set ranks x r) n 0 < suc r → get_or (set ranks x r) n 0 < get_or (set ranks x r) m 0
+        least : (m n : ℕ) → m < n → n < count → get_or (set ranks x r) n 0 < suc r
+            → get_or (set ranks x r) n 0 < get_or (set ranks x r) m 0
             → IsDue Before (λ k. get_or (set ranks x r) k 0) (get_or (set ranks x r) n 0) m → ⊥
         least m n before inside low higher ready =
             elim (same_or_not n x) [
@@ -186,7 +195,8 @@ stage_first Before count = record {
 }
 
 -- when all are given, where what comes before a node are its predecessors by edges that are no back edges
-pub stage_last : (Leads Before : ℕ → ℕ → Type 0) → ((u n : ℕ) → Before u n → IsForwardEdge Leads u n) → ((u n : ℕ) → IsForwardEdge Leads u n → Before u n) → (count : ℕ) (ranks : List ℕ)
+pub stage_last : (Leads Before : ℕ → ℕ → Type 0) → ((u n : ℕ) → Before u n → IsForwardEdge Leads u n)
+    → ((u n : ℕ) → IsForwardEdge Leads u n → Before u n) → (count : ℕ) (ranks : List ℕ)
     → IsStage Before count count ranks → IsRanking Leads count ranks
 stage_last Leads Before there all count ranks s = record {
   one_each = s.long;

@@ -30,20 +30,23 @@ edge_target : (edges : List (ℕ × ℕ)) (u v : ℕ) → IsEdge edges u v → C
 edge_target [] u v h = absurd (no_member (u, v) h)
 edge_target (edge ∷ edges) u v h = by_test (edge.0 == u) (λ e. here (λ more. edge_target edges u v more) e) (λ e. other (λ more. edge_target edges u v more) e)
   where
-    here : (IsEdge edges u v → Contains (targets edges u) v) → (edge.0 == u) ≡ true → Contains (targets (edge ∷ edges) u) v
+    here : (IsEdge edges u v → Contains (targets edges u) v) → (edge.0 == u) ≡ true
+        → Contains (targets (edge ∷ edges) u) v
     here again e = rw e (elim (contains_cases edge edges (u, v) h) [
       | inl is ↦ let second : v ≡ edge.1 = cc in subst (λ (n : ℕ). Contains (edge.1 ∷ targets edges u) n) (sym second) (first_member edge.1 (targets edges u))
       | inr more ↦ further_member edge.1 (targets edges u) v (again more)
     ])
 
-    other : (IsEdge edges u v → Contains (targets edges u) v) → (edge.0 == u) ≡ false → Contains (targets (edge ∷ edges) u) v
+    other : (IsEdge edges u v → Contains (targets edges u) v) → (edge.0 == u) ≡ false
+        → Contains (targets (edge ∷ edges) u) v
     other again e = rw e (elim (contains_cases edge edges (u, v) h) [
       | inl is ↦ let first : edge.0 ≡ u = cc in absurd (let k : true ≡ false = sym (eq-eqb edge.0 u first) ∙ e in cc)
       | inr more ↦ again more
     ])
 
 -- rows of targets are the table of the edges
-pub table_rows : (edges : List (ℕ × ℕ)) (nodes : ℕ) (rows : List (Vec ℕ Global)) → ((u v : ℕ) → IsEdge edges u v → u ≤ nodes) → length rows ≡ suc nodes
+pub table_rows : (edges : List (ℕ × ℕ)) (nodes : ℕ) (rows : List (Vec ℕ Global))
+    → ((u v : ℕ) → IsEdge edges u v → u ≤ nodes) → length rows ≡ suc nodes
     → ((u : ℕ) → u < length rows → get_or (rows_of rows) u [] ≡ targets edges u) → IsTable edges nodes (rows_of rows)
 table_rows edges nodes rows within long each = record { long = length-map rows _ ∙ long; there = there; all = all }
   where

@@ -15,7 +15,8 @@ module _ (edges : List (ℕ × ℕ)) (count : ℕ) (table : List (List ℕ)) (t 
   table_closed within u v edge = let long = t.long in let low = (within u v (t.there u v edge)).1 in omega arith
 
   -- and each node that leads on is reached
-  pub table_reached : IsWithin edges count → ((n : ℕ) → n < count → (path : List ℕ) × Walk (IsEdge edges) 0 n path) → (u v : ℕ) → HasEdge table u v → (path : List ℕ) × Walk (HasEdge table) 0 u path
+  pub table_reached : IsWithin edges count → ((n : ℕ) → n < count → (path : List ℕ) × Walk (IsEdge edges) 0 n path)
+      → (u v : ℕ) → HasEdge table u v → (path : List ℕ) × Walk (HasEdge table) 0 u path
   table_reached within reached u v edge = let way = reached u (within u v (t.there u v edge)).0 in (way.0, walk_same (IsEdge edges) (HasEdge table) t.all 0 u way.0 way.1)
 
   -- the back edges are the same

@@ -26,7 +26,8 @@ IsSettled table back [] = Unit {0}
 IsSettled table back (u ∷ order) = ((v : ℕ) → HasEdge table u v → IsLooked table back order u v) × IsSettled table back order
 
 -- what the walk keeps
-pub record IsDescent (table : List (List ℕ)) (seen : List Bool) (path : List ℕ) (back : List (ℕ × ℕ)) (order : List ℕ) : Type 0 where
+pub record IsDescent (table : List (List ℕ)) (seen : List Bool) (path : List ℕ) (back : List (ℕ × ℕ))
+    (order : List ℕ) : Type 0 where
   pub on_path : (n : ℕ) → Contains path n → IsMarked seen n
   pub left : (n : ℕ) → Contains order n → IsMarked seen n
   pub either : (n : ℕ) → IsMarked seen n → Contains path n ⊎ Contains order n
@@ -35,7 +36,8 @@ pub record IsDescent (table : List (List ℕ)) (seen : List Bool) (path : List �
   pub backs : (u h : ℕ) → Contains back (u, h) → IsBackEdge (HasEdge table) u h
 
 -- what a visit of a node leaves
-pub record IsVisited (table : List (List ℕ)) (node : ℕ) (old new : List Bool) (before after : List ℕ) (back more : List (ℕ × ℕ)) : Type 0 where
+pub record IsVisited (table : List (List ℕ)) (node : ℕ) (old new : List Bool) (before after : List ℕ)
+    (back more : List (ℕ × ℕ)) : Type 0 where
   pub order : List ℕ
   pub descent : IsDescent table new before more order
   pub same : after ≡ before

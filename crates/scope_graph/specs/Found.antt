@@ -33,10 +33,12 @@ IsMember table back plan Call h n = Extends (path_at plan n) (path_at plan h)
 IsMember table back plan Loop h n = (m : ℕ) × InBackward table back h m × ((n ≡ m) ⊎ IsCalledFrom plan m n)
 
 -- the scopes whose headers are below a bound, in the order of headers
-pub record IsFound (table : List (List ℕ)) (back : List (ℕ × ℕ)) (plan : Plan) (bound : ℕ) (rows : List ScopeRow) (holds : List (List Bool)) : Type 0 where
+pub record IsFound (table : List (List ℕ)) (back : List (ℕ × ℕ)) (plan : Plan) (bound : ℕ) (rows : List ScopeRow)
+    (holds : List (List Bool)) : Type 0 where
   pub long : length holds ≡ length rows
   pub below : (s : ℕ) → s < length rows → header_of rows s < bound
   pub kinds : (s : ℕ) → s < length rows → IsKindAt plan back (header_of rows s) (Some (kind_of rows s))
   pub held : (s : ℕ) → s < length rows → MarksExactly (length plan.places) (IsMember table back plan (kind_of rows s) (header_of rows s)) (slice_index_or holds s [])
   pub ascend : (s t : ℕ) → s < t → t < length rows → header_of rows s < header_of rows t
-  pub all : (kind : ScopeKind) (h : ℕ) → h < bound → IsKindAt plan back h (Some kind) → (s : ℕ) × (s < length rows) × (kind_of rows s ≡ kind) × (header_of rows s ≡ h)
+  pub all : (kind : ScopeKind) (h : ℕ) → h < bound → IsKindAt plan back h (Some kind)
+      → (s : ℕ) × (s < length rows) × (kind_of rows s ≡ kind) × (header_of rows s ≡ h)

@@ -32,7 +32,8 @@ pub record IsStage (Before : ℕ → ℕ → Type 0) (count r : ℕ) (ranks : Li
   pub each : (n : ℕ) → n < count → (slice_index ranks n < r) ⊎ (slice_index ranks n ≡ count)
   pub once : (m n : ℕ) → m < n → n < count → slice_index ranks n < r → slice_index ranks m ≢ slice_index ranks n
   pub ready : (n : ℕ) → n < count → slice_index ranks n < r → IsDue Before (slice_index ranks) (slice_index ranks n) n
-  pub least : (m n : ℕ) → m < n → n < count → slice_index ranks n < r → slice_index ranks n < slice_index ranks m → IsDue Before (slice_index ranks) (slice_index ranks n) m → ⊥
+  pub least : (m n : ℕ) → m < n → n < count → slice_index ranks n < r → slice_index ranks n < slice_index ranks m
+      → IsDue Before (slice_index ranks) (slice_index ranks n) m → ⊥
 
 -- the rank r is due to the node: it is the least that is ready and has none
 pub record IsChoice (Before : ℕ → ℕ → Type 0) (count r : ℕ) (ranks : List ℕ) (n : ℕ) : Type 0 where

@@ -1,6 +1,7 @@
 //! The depth-first walk from node 0.
 
-ghost use Rattle.std.specs.Prelude.{◌≡◌, ◌<◌, ◌++◌, ◌∷◌, [], ◌+◌, ℕ, List, false, length, take, drop, slice_index, slice_index_or, IfOk, MatchOption, Contains};
+ghost use Rattle.std.specs.Prelude.{◌≡◌, ◌<◌, ◌++◌, ◌∷◌, [], ◌+◌, ℕ, List, false, length, take, drop, slice_index};
+ghost use Rattle.std.specs.Prelude.{slice_index_or, IfOk, MatchOption, Contains};
 ghost use Rattle.graph_walks.specs.Walks.{Walk, IsDistinct};
 ghost use Rattle.domain_core.specs.Reducible.{Dominates};
 ghost use Rattle.graph_walks.specs.Tables.{IsClosed, HasEdge, rows_of};
@@ -25,7 +26,8 @@ pub enum Descent {
 pub fn depth_first(alloc: Global, table: &[Vec<u32>]) -> Result<Descent, AllocError>
     requires closed { IsClosed (rows_of table.now) }
     requires some { 0 < length table.now }
-    requires reached { (u v : ℕ) → HasEdge (rows_of table.now) u v → (path : List ℕ) × Walk (HasEdge (rows_of table.now)) 0 u path }
+    requires reached { (u v : ℕ) → HasEdge (rows_of table.now) u v
+        → (path : List ℕ) × Walk (HasEdge (rows_of table.now)) 0 u path }
     ensures { IfOk result (λ answer. IsDescentAnswer (rows_of table.now) answer) }
 {
     let mut seen = vec![in alloc; false; table.len()]?;
@@ -53,7 +55,8 @@ fn visit(
     requires walk { Walk (HasEdge (rows_of table.now)) 0 node (path.old.items ++ node ∷ []) }
     requires descent { (order : List ℕ) × IsDescent (rows_of table.now) seen.old path.old.items back.old.items order }
     ensures { IfOk result (λ found. MatchOption found
-        (IsVisited (rows_of table.now) node seen.old seen.new path.old.items path.new.items back.old.items back.new.items)
+        (IsVisited (rows_of table.now) node seen.old seen.new path.old.items path.new.items back.old.items
+        back.new.items)
         (Crosses_in (rows_of table.now))) }
 {
     seen[node as usize] = true;
@@ -128,7 +131,8 @@ fn crossing_at(
 
 // A place of the node on the path.
 fn place_of(path: &[u32], node: u32) -> Option<usize>
-    ensures { MatchOption result (Contains path.now node → ⊥) (λ at. (at < length path.now) × (slice_index path.now at ≡ node)) }
+    ensures { MatchOption result (Contains path.now node → ⊥)
+        (λ at. (at < length path.now) × (slice_index path.now at ≡ node)) }
 {
     path.iter().position(|other| *other == node)
 }

@@ -30,7 +30,9 @@ pub fn find_scopes(
     requires closed { (u v : ℕ) → HasEdge (rows_of table.now) u v → v < length graph.now.nodes }
     requires wide { length graph.now.nodes < length table.now }
     requires sources { (u h : ℕ) → Contains back.now (u, h) → u < length graph.now.nodes }
-    ensures { IfOk result (λ found. IsFound (rows_of table.now) back.now (plan_of graph.now) (length graph.now.nodes) found.rows.items (lists_of found.holds.items)) }
+    ensures { IfOk result
+        (λ found. IsFound (rows_of table.now) back.now (plan_of graph.now) (length graph.now.nodes) found.rows.items
+        (lists_of found.holds.items)) }
 {
     let mut rows = Vec::new(alloc);
     let mut holds = Vec::new(alloc);
@@ -64,7 +66,9 @@ fn members_of(
     requires wide { length graph.now.nodes < length table.now }
     requires sources { (u h : ℕ) → Contains back.now (u, h) → u < length graph.now.nodes }
     requires inside { header < length graph.now.nodes }
-    ensures { IfOk result (λ marks. MarksExactly (length graph.now.nodes) (IsMember (rows_of table.now) back.now (plan_of graph.now) kind header) marks.items) }
+    ensures { IfOk result
+        (λ marks. MarksExactly (length graph.now.nodes)
+        (IsMember (rows_of table.now) back.now (plan_of graph.now) kind header) marks.items) }
 {
     match kind {
         ScopeKind::Call => call_members(alloc, graph, header),

@@ -28,7 +28,8 @@ pub fn call_members(alloc: Global, graph: &Graph, header: u32) -> Result<Vec<boo
 pub fn loop_members(alloc: Global, graph: &Graph, body: &[bool]) -> Result<Vec<bool>, AllocError>
     requires long { length graph.now.nodes < length body.now }
     requires low { (m : ℕ) → IsMarked body.now m → m < length graph.now.nodes }
-    ensures { IfOk result (λ marks. MarksExactly (length graph.now.nodes) (IsTaken (plan_of graph.now) body.now) marks.items) }
+    ensures { IfOk result
+        (λ marks. MarksExactly (length graph.now.nodes) (IsTaken (plan_of graph.now) body.now) marks.items) }
 {
     let mut marks = Vec::new(alloc);
     let mut called = false;

@@ -1,6 +1,7 @@
 //! Ranks of the nodes of a reducible graph.
 
-ghost use Rattle.std.specs.Prelude.{◌≡◌, ◌<◌, ◌-◌, ◌^◌, ℕ, suc, true, false, filter, replicate, length, slice_index, IfOk};
+ghost use Rattle.std.specs.Prelude.{◌≡◌, ◌<◌, ◌-◌, ◌^◌, ℕ, suc, true, false, filter, replicate, length, slice_index};
+ghost use Rattle.std.specs.Prelude.{IfOk};
 ghost use Rattle.graph_walks.specs.Tables.{rows_of};
 ghost use Rattle.domain_core.specs.Reducible.{IsEdge, IsRanking, IsFalling};
 ghost use Rattle.scope_graph.specs.Descending.{IsBackList};

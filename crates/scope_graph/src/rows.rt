@@ -18,7 +18,8 @@ pub fn with_parents(
 ) -> Result<Vec<ScopeRow>, AllocError>
     requires grid { IsGrid rows.now (lists_of holds.now) (length ranks.now) }
     requires few { length rows.now < 2 ^ 32 - 1 }
-    ensures { IfOk result (λ scopes. IsParented (length rows.now) rows.now (lists_of holds.now) ranks.now scopes.items) }
+    ensures { IfOk result
+        (λ scopes. IsParented (length rows.now) rows.now (lists_of holds.now) ranks.now scopes.items) }
 {
     let mut scopes = Vec::new(alloc);
     for s in 0..rows.len() {
@@ -58,7 +59,9 @@ pub fn node_rows(
     requires long { length ranks.now ≡ length graph.now.nodes }
     requires named { length graph.now.names ≡ length graph.now.nodes }
     requires held { (n : ℕ) → n < length ranks.now → (s : ℕ) × (s < length rows.now) × IsHeld (lists_of holds.now) s n }
-    ensures { IfOk result (λ nodes. IsOwned (length graph.now.nodes) graph.now.names rows.now (lists_of holds.now) ranks.now nodes.items) }
+    ensures { IfOk result
+        (λ nodes. IsOwned (length graph.now.nodes) graph.now.names rows.now (lists_of holds.now) ranks.now
+        nodes.items) }
 {
     let mut nodes = Vec::new(alloc);
     for n in 0..graph.node_count() {

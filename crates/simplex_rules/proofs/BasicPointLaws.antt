@@ -27,7 +27,8 @@ record IsBasis (w : ℕ) (hs : List Held) : Type 0 where
   most : (k : ℕ) → k < length hs → (held_at hs k).basic < w
   flat : (k : ℕ) → k < length hs → entry (held_at hs k).line 1 ≡ pos 0
   own : (k : ℕ) → k < length hs → pos 1 ≤ℤ own_of (held_at hs k)
-  apart : (k i : ℕ) → k < length hs → i < length hs → (k ≡ i → ⊥) → entry (held_at hs k).line (held_at hs i).basic ≡ pos 0
+  apart : (k i : ℕ) → k < length hs → i < length hs → (k ≡ i → ⊥)
+      → entry (held_at hs k).line (held_at hs i).basic ≡ pos 0
 
 basis_tail : (w : ℕ) (h : Held) (hs : List Held) → IsBasis w (h ∷ hs) → IsBasis w hs
 basis_tail w h hs b = record {
@@ -45,7 +46,8 @@ nothing_times : (u z : ℤ) → u ≡ pos 0 → u *ℤ z ≡ pos 0
 nothing_times u z e = rw e (omega (arith, ints))
 
 -- a place that is no row's is 0
-number_elsewhere : (hs : List Held) (scale value : ℤ) (j : ℕ) → 2 ≤ j → ((k : ℕ) → k < length hs → (held_at hs k).basic ≡ j → ⊥) → basic_number hs scale value j ≡ pos 0
+number_elsewhere : (hs : List Held) (scale value : ℤ) (j : ℕ) → 2 ≤ j
+    → ((k : ℕ) → k < length hs → (held_at hs k).basic ≡ j → ⊥) → basic_number hs scale value j ≡ pos 0
 number_elsewhere [] scale value zero least other = absurd (omega arith)
 number_elsewhere [] scale value (suc zero) least other = absurd (omega arith)
 number_elsewhere [] scale value (suc (suc j)) least other = refl
@@ -54,7 +56,8 @@ number_elsewhere (h ∷ hs) scale value j least other =
     (times_nothing (own_of h) (basic_number hs scale value j) (number_elsewhere hs scale value j least (λ k below. other (suc k) (omega arith))))
 
 -- two rows have two places
-basics_apart : (w : ℕ) (hs : List Held) (k i : ℕ) → IsBasis w hs → k < length hs → i < length hs → (k ≡ i → ⊥) → (held_at hs k).basic ≡ (held_at hs i).basic → ⊥
+basics_apart : (w : ℕ) (hs : List Held) (k i : ℕ) → IsBasis w hs → k < length hs → i < length hs → (k ≡ i → ⊥)
+    → (held_at hs k).basic ≡ (held_at hs i).basic → ⊥
 basics_apart w hs k i b below below' d same =
     let one : pos 1 ≤ℤ entry (held_at hs k).line (held_at hs k).basic = b.own k below in
     let none : entry (held_at hs k).line (held_at hs i).basic ≡ pos 0 = b.apart k i below below' d in
@@ -62,7 +65,8 @@ basics_apart w hs k i b below below' d same =
     absurd (omega (arith, ints, one, none, both))
 
 -- the first two places alone
-along_bare : (w : ℕ) (scale value : ℤ) (f : ℕ → ℤ) → 2 ≤ w → along w f (bare_number scale value) ≡ (f 1 *ℤ value) -ℤ (f 0 *ℤ scale)
+along_bare : (w : ℕ) (scale value : ℤ) (f : ℕ → ℤ) → 2 ≤ w
+    → along w f (bare_number scale value) ≡ (f 1 *ℤ value) -ℤ (f 0 *ℤ scale)
 along_bare zero scale value f least = absurd (omega arith)
 along_bare (suc zero) scale value f least = absurd (omega arith)
 along_bare (suc (suc w)) scale value f least =
@@ -73,7 +77,8 @@ along_bare (suc (suc w)) scale value f least =
     let turn : f 0 *ℤ neg_ℤ scale ≡ pos 0 -ℤ (f 0 *ℤ scale) = times_neg (f 0) scale in
     omega (arith, ints, one, two, rest, turn)
 
-along_basic : (w : ℕ) (hs : List Held) (scale value : ℤ) (f : ℕ → ℤ) → 2 ≤ w → IsBasis w hs → along w f (basic_number hs scale value) ≡ basic_sum hs scale value f
+along_basic : (w : ℕ) (hs : List Held) (scale value : ℤ) (f : ℕ → ℤ) → 2 ≤ w → IsBasis w hs
+    → along w f (basic_number hs scale value) ≡ basic_sum hs scale value f
 along_basic w [] scale value f least b = along_bare w scale value f least
 along_basic w (h ∷ hs) scale value f least b =
     let changed = total_changed w h.basic (own_of h) (entry h.line 0 *ℤ basic_whole hs scale) f (basic_number hs scale value) (b.most 0 (omega arith)) in
@@ -86,7 +91,9 @@ along_basic w (h ∷ hs) scale value f least b =
     omega (arith, ints, changed, gone, moved)
 
 -- a line that is 0 at the basic places and has scale s
-free_sum : (hs : List Held) (scale value : ℤ) (f : ℕ → ℤ) → f 1 ≡ pos 0 → ((k : ℕ) → k < length hs → f (held_at hs k).basic ≡ pos 0) → basic_sum hs scale value f ≡ pos 0 -ℤ (f 0 *ℤ basic_whole hs scale)
+free_sum : (hs : List Held) (scale value : ℤ) (f : ℕ → ℤ) → f 1 ≡ pos 0
+    → ((k : ℕ) → k < length hs → f (held_at hs k).basic ≡ pos 0)
+    → basic_sum hs scale value f ≡ pos 0 -ℤ (f 0 *ℤ basic_whole hs scale)
 free_sum [] scale value f flat clear = omega (arith, ints, nothing_times (f 1) value flat)
 free_sum (h ∷ hs) scale value f flat clear =
     let gone : f h.basic *ℤ (entry h.line 0 *ℤ basic_whole hs scale) ≡ pos 0 = nothing_times (f h.basic) (entry h.line 0 *ℤ basic_whole hs scale) (clear 0 (omega arith)) in
@@ -97,7 +104,8 @@ free_sum (h ∷ hs) scale value f flat clear =
     omega (arith, ints, gone, moved, apart_, order)
 
 -- a row is 0
-row_sum_zero : (w : ℕ) (hs : List Held) (scale value : ℤ) (k : ℕ) → IsBasis w hs → k < length hs → basic_sum hs scale value (entry (held_at hs k).line) ≡ pos 0
+row_sum_zero : (w : ℕ) (hs : List Held) (scale value : ℤ) (k : ℕ) → IsBasis w hs → k < length hs
+    → basic_sum hs scale value (entry (held_at hs k).line) ≡ pos 0
 row_sum_zero w [] scale value k b below = absurd (omega arith)
 row_sum_zero w (h ∷ hs) scale value zero b below =
     let rest : basic_sum hs scale value (entry h.line) ≡ pos 0 -ℤ (entry h.line 0 *ℤ basic_whole hs scale) =
@@ -112,7 +120,8 @@ row_sum_zero w (h ∷ hs) scale value (suc k) b below =
     omega (arith, ints, gone, rest)
 
 -- the objective is 0
-objective_sum_zero : (hs : List Held) (scale value : ℤ) (f : ℕ → ℤ) → f 1 ≡ scale → f 0 ≡ value → ((k : ℕ) → k < length hs → f (held_at hs k).basic ≡ pos 0) → basic_sum hs scale value f ≡ pos 0
+objective_sum_zero : (hs : List Held) (scale value : ℤ) (f : ℕ → ℤ) → f 1 ≡ scale → f 0 ≡ value
+    → ((k : ℕ) → k < length hs → f (held_at hs k).basic ≡ pos 0) → basic_sum hs scale value f ≡ pos 0
 objective_sum_zero [] scale value f one two clear = rw (one, two) (omega (arith, ints))
 objective_sum_zero (h ∷ hs) scale value f one two clear =
     let gone : f h.basic *ℤ (entry h.line 0 *ℤ basic_whole hs scale) ≡ pos 0 = nothing_times (f h.basic) (entry h.line 0 *ℤ basic_whole hs scale) (clear 0 (omega arith)) in
@@ -125,14 +134,16 @@ whole_above : (w : ℕ) (hs : List Held) (scale : ℤ) → IsBasis w hs → pos 
 whole_above w [] scale b above = above
 whole_above w (h ∷ hs) scale b above = product_above (own_of h) (basic_whole hs scale) (b.own 0 (omega arith)) (whole_above w hs scale (basis_tail w h hs b) above)
 
-number_right : (w : ℕ) (hs : List Held) (scale value : ℤ) → IsBasis w hs → basic_number hs scale value 0 ≡ neg_ℤ (basic_whole hs scale)
+number_right : (w : ℕ) (hs : List Held) (scale value : ℤ) → IsBasis w hs
+    → basic_number hs scale value 0 ≡ neg_ℤ (basic_whole hs scale)
 number_right w [] scale value b = refl
 number_right w (h ∷ hs) scale value b =
     rw (ne_eqb 0 h.basic (λ (q : 0 ≡ h.basic). absurd (omega (arith, b.least 0 (omega arith)))), number_right w hs scale value (basis_tail w h hs b))
     (omega (arith, ints, times_neg (own_of h) (basic_whole hs scale)))
 
 -- the objective's number, times its scale, is the value times the whole
-number_value : (w : ℕ) (hs : List Held) (scale value : ℤ) → IsBasis w hs → basic_number hs scale value 1 *ℤ scale ≡ value *ℤ basic_whole hs scale
+number_value : (w : ℕ) (hs : List Held) (scale value : ℤ) → IsBasis w hs
+    → basic_number hs scale value 1 *ℤ scale ≡ value *ℤ basic_whole hs scale
 number_value w [] scale value b = refl
 number_value w (h ∷ hs) scale value b =
     rw (ne_eqb 1 h.basic (λ (q : 1 ≡ h.basic). absurd (omega (arith, b.least 0 (omega arith)))))
@@ -161,7 +172,8 @@ number_not_below w (h ∷ hs) scale value j b above least rights =
 
 -- The rows are met.
 
-meets_step : (b : Bool) (r : Row) (s : ℕ) (more : List Generator) (x : ℕ → ℤ) (w : ℤ) → x 0 ≡ neg_ℤ w → 2 ≤ s → ((j : ℕ) → 2 ≤ j → pos 0 ≤ℤ x j)
+meets_step : (b : Bool) (r : Row) (s : ℕ) (more : List Generator) (x : ℕ → ℤ) (w : ℤ) → x 0 ≡ neg_ℤ w → 2 ≤ s
+    → ((j : ℕ) → 2 ≤ j → pos 0 ≤ℤ x j)
     → AreZero (row_lines b r s more) x → MeetsAs b (value_at r.terms (λ e. x (suc (suc e)))) (r.right *ℤ w) × AreZero more x
 meets_step false r s more x w right least positive zeros =
     let one : r.right *ℤ x 0 ≡ pos 0 -ℤ (r.right *ℤ w) = ap (λ (t : ℤ). r.right *ℤ t) right ∙ times_neg r.right w in
@@ -175,7 +187,8 @@ next_least : (b : Bool) (s : ℕ) → 2 ≤ s → 2 ≤ next_slack b s
 next_least true s least = omega arith
 next_least false s least = omega arith
 
-rows_met : (rs : List Row) (s : ℕ) (x : ℕ → ℤ) (w : ℤ) (k : ℕ) → x 0 ≡ neg_ℤ w → 2 ≤ s → ((j : ℕ) → 2 ≤ j → pos 0 ≤ℤ x j)
+rows_met : (rs : List Row) (s : ℕ) (x : ℕ → ℤ) (w : ℤ) (k : ℕ) → x 0 ≡ neg_ℤ w → 2 ≤ s
+    → ((j : ℕ) → 2 ≤ j → pos 0 ≤ℤ x j)
     → AreZero (generators rs s) x → k < length rs → Meets (row_at rs k) (λ e. x (suc (suc e))) w
 rows_met [] s x w k right least positive zeros below = absurd (omega arith)
 rows_met (r ∷ rs) s x w zero right least positive zeros below = (meets_step r.equation r s (generators rs (next_slack r.equation s)) x w right least positive zeros).0
@@ -192,7 +205,8 @@ pub point_above : (gs : List Generator) (w : ℕ) (t : Tableau) → IsSound gs w
 point_above gs w t s = whole_above w t.rows (entry t.objective 1) (sound_basis gs w t s) s.scale
 
 -- all first lines are 0 at the numbers read off
-all_zero : (gs : List Generator) (w : ℕ) (t : Tableau) → 2 ≤ w → IsSound gs w t → AreZero gs (basic_number t.rows (entry t.objective 1) (entry t.objective 0))
+all_zero : (gs : List Generator) (w : ℕ) (t : Tableau) → 2 ≤ w → IsSound gs w t
+    → AreZero gs (basic_number t.rows (entry t.objective 1) (entry t.objective 0))
 all_zero gs w t least s =
     let b = sound_basis gs w t s in
     let d = entry t.objective 1 in

@@ -27,7 +27,8 @@ not_below (negsuc a) b p q = absurd (omega (arith, ints))
 not_below (pos a) (negsuc b) p q = absurd (omega (arith, ints))
 
 -- the value over the scale does not rise where the pivoted row's right side is at least 0
-falling_pivot : (e : ℕ) (f h f' : ℕ → ℤ) → IsCleared e f h f' → pos 1 ≤ℤ h e → pos 0 ≤ℤ h 0 → h 1 ≡ pos 0 → pos 0 ≤ℤ f e → pos 1 ≤ℤ f 1 → NoMore (f' 0) (f' 1) (f 0) (f 1)
+falling_pivot : (e : ℕ) (f h f' : ℕ → ℤ) → IsCleared e f h f' → pos 1 ≤ℤ h e → pos 0 ≤ℤ h 0 → h 1 ≡ pos 0 → pos 0 ≤ℤ f e
+    → pos 1 ≤ℤ f 1 → NoMore (f' 0) (f' 1) (f 0) (f 1)
 falling_pivot e f h f' c above right flat rising scale =
     let g = c.g in
     let a = c.a in
@@ -50,7 +51,8 @@ falling_pivot e f h f' c above right flat rising scale =
 abbrev pub Falls : Tableau → Tableau → Type 0
 Falls new old = NoMore (entry new.objective 0) (entry new.objective 1) (entry old.objective 0) (entry old.objective 1)
 
-rule_falls : (p : Program) (t : Tableau) (r e : ℕ) → IsRight p t → r < length t.rows → number_at t r 0 <ℤ pos 0 → IsEntering (held_at t.rows r).line t.objective (variables_of p) e
+rule_falls : (p : Program) (t : Tableau) (r e : ℕ) → IsRight p t → r < length t.rows → number_at t r 0 <ℤ pos 0
+    → IsEntering (held_at t.rows r).line t.objective (variables_of p) e
     → Falls (pivoted (neg_ℤ (pos 1)) r e t) t
 rule_falls p t r e right below negative is =
     let wide = width_above p.rows (slacks_from p) in
@@ -64,7 +66,8 @@ rule_falls p t r e right below negative is =
     (v.row 1 ∙ minus (number_at t r 1) ∙ ap neg_ℤ (right.sound.flat r below))
     (right.rising.is e is.least (omega (arith, is.most))) right.sound.scale
 
-place_falls : (p : Program) (made r : ℕ) (t : Tableau) (go_on : Tableau → Ended) (o : Option ℕ) → IsRight p t → r < length t.rows → number_at t r 0 <ℤ pos 0
+place_falls : (p : Program) (made r : ℕ) (t : Tableau) (go_on : Tableau → Ended) (o : Option ℕ) → IsRight p t
+    → r < length t.rows → number_at t r 0 <ℤ pos 0
     → EnteringIs (held_at t.rows r).line t.objective (variables_of p) o → ((t' : Tableau) → IsRight p t' → Falls (go_on t').tableau t' × (pos 1 ≤ℤ entry (go_on t').tableau.objective 1)) → Falls (after_place p made r t go_on o).tableau t × (pos 1 ≤ℤ entry (after_place p made r t go_on o).tableau.objective 1)
 place_falls p made r t go_on None right below negative is later = (omega (arith, ints), right.sound.scale)
 place_falls p made r t go_on (Some e) right below negative is later = by_test (pivot_wide p r e t)
@@ -78,7 +81,8 @@ place_falls p made r t go_on (Some e) right below negative is later = by_test (p
       rest.1,
     )))
 
-row_falls : (p : Program) (made : ℕ) (t : Tableau) (go_on : Tableau → Ended) (o : Option ℕ) → IsRight p t → IsLeaving t (length t.rows) o
+row_falls : (p : Program) (made : ℕ) (t : Tableau) (go_on : Tableau → Ended) (o : Option ℕ) → IsRight p t
+    → IsLeaving t (length t.rows) o
     → ((t' : Tableau) → IsRight p t' → Falls (go_on t').tableau t' × (pos 1 ≤ℤ entry (go_on t').tableau.objective 1)) → Falls (after_row p made t go_on o).tableau t × (pos 1 ≤ℤ entry (after_row p made t go_on o).tableau.objective 1)
 row_falls p made t go_on None right is later = (omega (arith, ints), right.sound.scale)
 row_falls p made t go_on (Some r) right is later =
@@ -88,11 +92,13 @@ row_falls p made t go_on (Some r) right is later =
     (λ (no_ : entering_wide row t.objective (variables_of p) ≡ false). rw no_
     (place_falls p made r t go_on (entering row t.objective (variables_of p)) right is.0 is.1 (entering_is row t.objective (variables_of p)) later))
 
-limit_falls : (t : Tableau) (o : Option ℕ) → pos 1 ≤ℤ entry t.objective 1 → Falls (at_limit t o).tableau t × (pos 1 ≤ℤ entry (at_limit t o).tableau.objective 1)
+limit_falls : (t : Tableau) (o : Option ℕ) → pos 1 ≤ℤ entry t.objective 1
+    → Falls (at_limit t o).tableau t × (pos 1 ≤ℤ entry (at_limit t o).tableau.objective 1)
 limit_falls t None above = (omega (arith, ints), above)
 limit_falls t (Some r) above = (omega (arith, ints), above)
 
 -- the value at the end is at most the value at the start
-pub run_falls : (p : Program) (n made : ℕ) (t : Tableau) → IsRight p t → Falls (run p n made t).tableau t × (pos 1 ≤ℤ entry (run p n made t).tableau.objective 1)
+pub run_falls : (p : Program) (n made : ℕ) (t : Tableau) → IsRight p t
+    → Falls (run p n made t).tableau t × (pos 1 ≤ℤ entry (run p n made t).tableau.objective 1)
 run_falls p zero made t right = limit_falls t (leaving t) right.sound.scale
 run_falls p (suc n) made t right = row_falls p made t (run p n (suc made)) (leaving t) right (leaving_is t) (run_falls p n (suc made))

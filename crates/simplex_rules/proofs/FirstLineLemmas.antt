@@ -28,7 +28,8 @@ pub value_turned : (ts : List (ℕ × ℤ)) (x : ℕ → ℤ) → value_at (turn
 value_turned [] x = refl
 value_turned (t ∷ ts) x = omega (arith, ints, value_turned ts x, neg_times t.1 (x t.0))
 
-pub value_costs : (cs : List ℕ) (j : ℕ) (x : ℕ → ℤ) → value_at (cost_terms cs j) x ≡ neg_ℤ (total (length cs) (λ e. pos (cost_at cs e) *ℤ x (j + e)))
+pub value_costs : (cs : List ℕ) (j : ℕ) (x : ℕ → ℤ)
+    → value_at (cost_terms cs j) x ≡ neg_ℤ (total (length cs) (λ e. pos (cost_at cs e) *ℤ x (j + e)))
 value_costs [] j x = refl
 value_costs (c ∷ cs) j x =
     let first_part = total_first (length cs) (λ e. pos (cost_at (c ∷ cs) e) *ℤ x (j + e)) in

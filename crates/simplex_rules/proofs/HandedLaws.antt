@@ -26,14 +26,16 @@ module _ (p : Program) where
   abbrev IsNarrow : Ended → Type 0
   IsNarrow x = handed_wide p x.tableau ≡ false
 
-  place_narrow : (made r : ℕ) (t : Tableau) (go_on : Tableau → Ended) (o : Option ℕ) → handed_wide p t ≡ false → ((u : Tableau) → handed_wide p u ≡ false → IsNarrow (go_on u)) → IsNarrow (after_place p made r t go_on o)
+  place_narrow : (made r : ℕ) (t : Tableau) (go_on : Tableau → Ended) (o : Option ℕ) → handed_wide p t ≡ false
+      → ((u : Tableau) → handed_wide p u ≡ false → IsNarrow (go_on u)) → IsNarrow (after_place p made r t go_on o)
   place_narrow made r t go_on None narrow later = narrow
   place_narrow made r t go_on (Some e) narrow later = by_test (pivot_wide p r e t)
       (λ is. let ends : after_place p made r t go_on (Some e) ≡ (let x : Ended = record { tableau = t; end = TooWide (suc made) } in x) = rw is refl in subst IsNarrow (sym ends) narrow)
       (λ clear. let goes : after_place p made r t go_on (Some e) ≡ go_on (pivoted (neg_ℤ (pos 1)) r e t) = rw clear refl in
       subst IsNarrow (sym goes) (later (pivoted (neg_ℤ (pos 1)) r e t) (last_false _ (handed_wide p (pivoted (neg_ℤ (pos 1)) r e t)) clear)))
 
-  row_narrow : (made : ℕ) (t : Tableau) (go_on : Tableau → Ended) (o : Option ℕ) → handed_wide p t ≡ false → ((u : Tableau) → handed_wide p u ≡ false → IsNarrow (go_on u)) → IsNarrow (after_row p made t go_on o)
+  row_narrow : (made : ℕ) (t : Tableau) (go_on : Tableau → Ended) (o : Option ℕ) → handed_wide p t ≡ false
+      → ((u : Tableau) → handed_wide p u ≡ false → IsNarrow (go_on u)) → IsNarrow (after_row p made t go_on o)
   row_narrow made t go_on None narrow later = narrow
   row_narrow made t go_on (Some r) narrow later =
       let row = (held_at t.rows r).line in
@@ -61,7 +63,8 @@ first_found : {A : Type 0} (n : ℕ) (f : ℕ → Option A) (w : A) → first n 
 first_found {A = A} zero f w e = absurd cc
 first_found {A = A} (suc n) f w e = by_first (first_found n f) (first n f) refl e
   where
-    by_first : ((v : A) → first n f ≡ Some v → (k : ℕ) × (k < n) × (f k ≡ Some v)) → (o : Option A) → first n f ≡ o → or_else o (f n) ≡ Some w → (k : ℕ) × (k < suc n) × (f k ≡ Some w)
+    by_first : ((v : A) → first n f ≡ Some v → (k : ℕ) × (k < n) × (f k ≡ Some v)) → (o : Option A) → first n f ≡ o
+        → or_else o (f n) ≡ Some w → (k : ℕ) × (k < suc n) × (f k ≡ Some w)
     by_first before None none later = (n, omega arith, later)
     by_first before (Some v) found same =
         let v_is : v ≡ w = cc in
@@ -77,7 +80,8 @@ sign_none k false y sign = let above : int_le (pos 0) y ≡ true = (let s = sign
     at_least z above = by_test (int_le (pos 0) z) (λ is. is) (λ clear. absurd (omega (arith, ints, clear, above)))
 
 -- an answer at a column whose cost is bounded is that a number is wide
-column_wide : (rows e : ℕ) (o : Option ℕ) (need sum : ℤ) (w : Verdict) → need ≤ℤ sum → unless_wide o (λ k. Some (Wide k)) (column_test rows e need sum) ≡ Some w → is_wide w ≡ true
+column_wide : (rows e : ℕ) (o : Option ℕ) (need sum : ℤ) (w : Verdict) → need ≤ℤ sum
+    → unless_wide o (λ k. Some (Wide k)) (column_test rows e need sum) ≡ Some w → is_wide w ≡ true
 column_wide rows e (Some k) need sum w bounded found = let same : Wide k ≡ w = cc in ap is_wide (sym same)
 column_wide rows e None need sum w bounded found = by_test (fits need)
     (λ fit. by_test (int_le need sum)
@@ -85,12 +89,14 @@ column_wide rows e None need sum w bounded found = by_test (fits need)
     (λ clear. absurd (omega (arith, ints, clear, bounded))))
     (λ clear. let wide : column_test rows e need sum ≡ Some (Wide rows) = rw clear refl in let same : Wide rows ≡ w = cc in ap is_wide (sym same))
 
-right_holds : (o : Option ℕ) (bound value : ℕ) → is_wide (unless_wide o Wide (bound_test 0 value)) ≡ false → value ≤ bound → unless_wide o Wide (bound_test bound value) ≡ Holds value
+right_holds : (o : Option ℕ) (bound value : ℕ) → is_wide (unless_wide o Wide (bound_test 0 value)) ≡ false
+    → value ≤ bound → unless_wide o Wide (bound_test bound value) ≡ Holds value
 right_holds (Some k) bound value narrow low = absurd cc
 right_holds None bound value narrow low = rw (le-leb value bound low) refl
 
 -- a dual point that is not wide holds for each bound that its value does not pass
-pub dual_holds : (p : Program) (scale : ℤ) (y : List ℤ) (bound : ℕ) → IsDual p scale y → is_wide (verdict p scale y 0) ≡ false → floor_of (dual_sum p y) scale ≤ bound
+pub dual_holds : (p : Program) (scale : ℤ) (y : List ℤ) (bound : ℕ) → IsDual p scale y
+    → is_wide (verdict p scale y 0) ≡ false → floor_of (dual_sum p y) scale ≤ bound
     → verdict p scale y bound ≡ Holds (floor_of (dual_sum p y) scale)
 unfolding verdict
 dual_holds p scale y bound dual narrow low =

@@ -89,12 +89,14 @@ pub handed_signs : (p : Program) (d : List ℤ) → IsRising (width_of p) d
 handed_signs p d rising k below e = signs p.rows (slacks_from p) (width_of p) d k (omega arith) (omega arith) rising below e
 
 -- the multipliers of a spanned, rising objective are a dual point
-pub handed_dual : (p : Program) (d : List ℤ) → IsSpanned (all_lines p) (entry d) → pos 1 ≤ℤ entry d 1 → IsRising (width_of p) d
+pub handed_dual : (p : Program) (d : List ℤ) → IsSpanned (all_lines p) (entry d) → pos 1 ≤ℤ entry d 1
+    → IsRising (width_of p) d
     → IsDual p (entry d 1) (multipliers p.rows (slacks_from p) d)
 handed_dual p d spans above rising = record { above = above; signs = handed_signs p d rising; columns = handed_columns p d spans rising }
 
 -- the objective's right side is the sum of multiplier times right side
-pub handed_sum : (p : Program) (d : List ℤ) → IsSpanned (all_lines p) (entry d) → dual_sum p (multipliers p.rows (slacks_from p) d) ≡ entry d 0
+pub handed_sum : (p : Program) (d : List ℤ) → IsSpanned (all_lines p) (entry d)
+    → dual_sum p (multipliers p.rows (slacks_from p) d) ≡ entry d 0
 handed_sum p d spans =
     let here : coefficient (objective_line p.costs).1 0 ≡ pos 0 =
     omega (arith, ints, cost_terms_low p.costs 2 0 (omega arith), term_elsewhere 1 0 (pos 1) (λ (z : 1 ≡ 0). absurd (omega arith))) in

@@ -53,14 +53,16 @@ product_about y (negsuc n) about is =
     (omega (arith, ints, high, turned, c_low), omega (arith, ints, low, low_is, turned, c_low))
 
 -- sums of so many such products
-sum_about : (n : ℕ) (f : ℕ → ℤ) → ((k : ℕ) → k < n → IsUpTo 36893488147419103232 (f k)) → ((pos 0 -ℤ (pos 36893488147419103232 *ℤ pos n)) ≤ℤ total n f) × (total n f ≤ℤ (pos 36893488147419103232 *ℤ pos n))
+sum_about : (n : ℕ) (f : ℕ → ℤ) → ((k : ℕ) → k < n → IsUpTo 36893488147419103232 (f k))
+    → ((pos 0 -ℤ (pos 36893488147419103232 *ℤ pos n)) ≤ℤ total n f) × (total n f ≤ℤ (pos 36893488147419103232 *ℤ pos n))
 sum_about zero f each_one = (omega (arith, ints), omega (arith, ints))
 sum_about (suc n) f each_one =
     let before = sum_about n f (λ k below. each_one k (omega arith)) in
     let here = each_one n (omega arith) in
     (omega (arith, ints, before.0, here.0), omega (arith, ints, before.1, here.1))
 
-narrow_here : (n k : ℕ) (f : ℕ → ℤ) → n < 4294967296 → ((k : ℕ) → k < n → IsUpTo 36893488147419103232 (f k)) → k < n → wide_at f k ≡ None
+narrow_here : (n k : ℕ) (f : ℕ → ℤ) → n < 4294967296 → ((k : ℕ) → k < n → IsUpTo 36893488147419103232 (f k)) → k < n
+    → wide_at f k ≡ None
 narrow_here n k f few each_one below =
     let here = each_one k below in
     let before = sum_about k f (λ i low. each_one i (omega (arith, low, below))) in
@@ -68,12 +70,14 @@ narrow_here n k f few each_one below =
     let sum : fits (total k f +ℤ f k) ≡ true = about_fits (total k f +ℤ f k) (omega (arith, ints, here.0, before.0, few, below), omega (arith, ints, here.1, before.1, few, below)) in
     rw (one, sum) refl
 
-narrow_sums : (n : ℕ) (f : ℕ → ℤ) → n < 4294967296 → ((k : ℕ) → k < n → IsUpTo 36893488147419103232 (f k)) → first_wide n f ≡ None
+narrow_sums : (n : ℕ) (f : ℕ → ℤ) → n < 4294967296 → ((k : ℕ) → k < n → IsUpTo 36893488147419103232 (f k))
+    → first_wide n f ≡ None
 narrow_sums n f few each_one = all_none n (wide_at f) (λ k below. narrow_here n k f few each_one below)
 
 -- ---- the multipliers
 
-multiplier_about : (b : Bool) (s : ℕ) (d : List ℤ) → ((j : ℕ) → s ≤ j → (pos 0 ≤ℤ entry d j) × (entry d j ≤ℤ pos 4294967296)) → IsUpTo 4294967296 (multiplier b s d)
+multiplier_about : (b : Bool) (s : ℕ) (d : List ℤ)
+    → ((j : ℕ) → s ≤ j → (pos 0 ≤ℤ entry d j) × (entry d j ≤ℤ pos 4294967296)) → IsUpTo 4294967296 (multiplier b s d)
 multiplier_about true s d each_one =
     let one = each_one s (omega arith) in
     let two = each_one (suc s) (omega arith) in
@@ -84,7 +88,9 @@ next_most : (b : Bool) (s : ℕ) → s ≤ next_slack b s
 next_most true s = omega arith
 next_most false s = omega arith
 
-multipliers_about : (rs : List Row) (s : ℕ) (d : List ℤ) (k : ℕ) → ((j : ℕ) → s ≤ j → (pos 0 ≤ℤ entry d j) × (entry d j ≤ℤ pos 4294967296)) → IsUpTo 4294967296 (entry (multipliers rs s d) k)
+multipliers_about : (rs : List Row) (s : ℕ) (d : List ℤ) (k : ℕ)
+    → ((j : ℕ) → s ≤ j → (pos 0 ≤ℤ entry d j) × (entry d j ≤ℤ pos 4294967296))
+    → IsUpTo 4294967296 (entry (multipliers rs s d) k)
 multipliers_about [] s d k each_one = (omega (arith, ints), omega (arith, ints))
 multipliers_about (r ∷ rs) s d zero each_one = multiplier_about r.equation s d each_one
 multipliers_about (r ∷ rs) s d (suc k) each_one = let more = next_most r.equation s in multipliers_about rs (next_slack r.equation s) d k (λ j low. each_one j (omega (arith, low, more)))
@@ -111,7 +117,8 @@ module _ (p : Program) (os : List (ℕ × ℕ)) (is : IsProgram p) (o : Opens p 
   place_of i = (opening_at os i).1
 
   -- the opening whose slack is at the place, or none
-  marked_by : (n j : ℕ) → ((i : ℕ) × (i < n) × (j ≡ mark_at p (row_of i))) ⊎ ((i : ℕ) → i < n → j ≡ mark_at p (row_of i) → ⊥)
+  marked_by : (n j : ℕ)
+      → ((i : ℕ) × (i < n) × (j ≡ mark_at p (row_of i))) ⊎ ((i : ℕ) → i < n → j ≡ mark_at p (row_of i) → ⊥)
   marked_by zero j = inr (λ i low same. omega arith)
   marked_by (suc n) j = elim (cases_eq j (mark_at p (row_of n))) [
     | inl same ↦ inl (n, omega arith, same)
@@ -121,7 +128,8 @@ module _ (p : Program) (os : List (ℕ × ℕ)) (is : IsProgram p) (o : Opens p 
     ]
   ]
 
-  slack_about : (t : Tableau) (j : ℕ) → IsPlain p os (length os) t → slacks_from p ≤ j → (pos 0 ≤ℤ entry t.objective j) × (entry t.objective j ≤ℤ pos 4294967296)
+  slack_about : (t : Tableau) (j : ℕ) → IsPlain p os (length os) t → slacks_from p ≤ j
+      → (pos 0 ≤ℤ entry t.objective j) × (entry t.objective j ≤ℤ pos 4294967296)
   slack_about t j plain past =
       let f : ℕ → ℤ = λ i. cost_of p (place_of i) *ℤ coefficient_at p (row_of i) j in
       let none : cost_of p j ≡ pos 0 = cost_past p j past in
@@ -139,12 +147,14 @@ module _ (p : Program) (os : List (ℕ × ℕ)) (is : IsProgram p) (o : Opens p 
             (omega (arith, ints, plain.objective j, none, sum), omega (arith, ints, plain.objective j, none, sum))
       ]
     where
-      other_row : (k i : ℕ) → k < length os → i < length os → (k ≡ i → ⊥) → j ≡ mark_at p (row_of i) → coefficient_at p (row_of k) j ≡ pos 0
+      other_row : (k i : ℕ) → k < length os → i < length os → (k ≡ i → ⊥) → j ≡ mark_at p (row_of i)
+          → coefficient_at p (row_of k) j ≡ pos 0
       other_row k i below low other same =
           ap (λ (e : ℕ). coefficient_at p (row_of k) e) same ∙ line_other p (row_of k) (row_of i) is (o.rows k below) (o.rows i low) (rows_apart p os k i o below low other)
 
   -- the test of what the opening hands out meets no wide number
-  pub plain_narrow : (t : Tableau) → IsPlain p os (length os) t → IsDual p (entry t.objective 1) (handed p t) → handed_wide p t ≡ false
+  pub plain_narrow : (t : Tableau) → IsPlain p os (length os) t → IsDual p (entry t.objective 1) (handed p t)
+      → handed_wide p t ≡ false
   unfolding verdict
   plain_narrow t plain dual =
       let d = t.objective in
@@ -167,7 +177,8 @@ module _ (p : Program) (os : List (ℕ × ℕ)) (is : IsProgram p) (o : Opens p 
       let told : verdict p scale y 0 ≡ bound_test 0 (floor_of (dual_sum p y) scale) = rw (signs, columns, right) refl in
       ap is_wide told ∙ never_wide (floor_of (dual_sum p y) scale)
     where
-      passes : (rows e : ℕ) (w : Option ℕ) (need sum : ℤ) → w ≡ None → fits need ≡ true → need ≤ℤ sum → unless_wide w (λ k. Some (Wide k)) (column_test rows e need sum) ≡ None
+      passes : (rows e : ℕ) (w : Option ℕ) (need sum : ℤ) → w ≡ None → fits need ≡ true → need ≤ℤ sum
+          → unless_wide w (λ k. Some (Wide k)) (column_test rows e need sum) ≡ None
       passes rows e w need sum none fit bounded =
           let le : int_le need sum ≡ true = by_test (int_le need sum) (λ yes_. yes_) (λ clear. absurd (omega (arith, ints, clear, bounded))) in
           rw none (rw (fit, le) refl)
@@ -176,7 +187,8 @@ module _ (p : Program) (os : List (ℕ × ℕ)) (is : IsProgram p) (o : Opens p 
       never_wide v = by_test (nat_le v 0) (λ yes_. rw yes_ refl) (λ clear. rw clear refl)
 
 -- the test of what the opening hands out meets no wide number
-pub opening_narrow : (p : Program) (os : List (ℕ × ℕ)) → IsProgram p → OpensRows p os → IsSmall p → handed_wide p (started p os) ≡ false
+pub opening_narrow : (p : Program) (os : List (ℕ × ℕ)) → IsProgram p → OpensRows p os → IsSmall p
+    → handed_wide p (started p os) ≡ false
 opening_narrow p os is o small =
     let places = opening_places p.rows os in
     let lines = opens_lines p os o in

@@ -30,7 +30,8 @@ cost_low p j least =
     omega (arith, ints, c, term_elsewhere 1 j (pos 1) (λ (z : 1 ≡ j). absurd (omega arith)))
 
 -- at a column of opening i the objective is the column's cost and the number at the opening's mark
-objective_column : (p : Program) (os : List (ℕ × ℕ)) (t : Tableau) (i j : ℕ) → Opens p os → IsOpened p os (length os) t → i < length os
+objective_column : (p : Program) (os : List (ℕ × ℕ)) (t : Tableau) (i j : ℕ) → Opens p os → IsOpened p os (length os) t
+    → i < length os
     → coefficient_at p (opening_at os i).0 j ≡ pos 1 → ((k : ℕ) → k < length os → (k ≡ i → ⊥) → coefficient_at p (opening_at os k).0 j ≡ pos 0)
     → entry t.objective j ≡ (entry t.objective 1 *ℤ cost_of p j) +ℤ entry t.objective (mark_at p (opening_at os i).0)
 objective_column p os t i j o x below own others =
@@ -48,7 +49,8 @@ objective_column p os t i j o x below own others =
     omega (arith, ints, x.sound.spans_objective.is j, alone, one)
 
 -- the number at an opening's mark pays for its columns
-pub opening_pays : (p : Program) (os : List (ℕ × ℕ)) (t : Tableau) (i : ℕ) → Opens p os → IsOpened p os (length os) t → i < length os
+pub opening_pays : (p : Program) (os : List (ℕ × ℕ)) (t : Tableau) (i : ℕ) → Opens p os → IsOpened p os (length os) t
+    → i < length os
     → pos 0 ≡ (entry t.objective 1 *ℤ cost_of p (opening_at os i).1) +ℤ entry t.objective (mark_at p (opening_at os i).0)
 opening_pays p os t i o x below =
     let zero_ : entry t.objective (opening_at os i).1 ≡ pos 0 = rw (← x.bases i below) (x.sound.clear (opening_at os i).0 (rw x.count (o.rows i below))) in
@@ -60,7 +62,8 @@ not_below (negsuc d) m p q = absurd (omega (arith, ints))
 not_below (pos d) (negsuc m) p q = absurd (omega (arith, ints))
 
 -- the number at each line's mark is at least 0
-mark_rising : (p : Program) (os : List (ℕ × ℕ)) (t : Tableau) (k : ℕ) → Opens p os → IsOpened p os (length os) t → k < length (lines_of p) → pos 0 ≤ℤ entry t.objective (mark_at p k)
+mark_rising : (p : Program) (os : List (ℕ × ℕ)) (t : Tableau) (k : ℕ) → Opens p os → IsOpened p os (length os) t
+    → k < length (lines_of p) → pos 0 ≤ℤ entry t.objective (mark_at p k)
 mark_rising p os t k o x below = ⊎_elim
     (λ (f : IsFound os (length os) k).
     let i = f.at_ in
@@ -94,7 +97,8 @@ find_mark p j (suc n) = ⊎_elim
     (cases_eq j (mark_at p n))
 
 -- after the opening the objective's numbers are at least 0
-opened_rising : (p : Program) (os : List (ℕ × ℕ)) (t : Tableau) → IsProgram p → Opens p os → IsOpened p os (length os) t → IsRising (width_of p) t.objective
+opened_rising : (p : Program) (os : List (ℕ × ℕ)) (t : Tableau) → IsProgram p → Opens p os → IsOpened p os (length os) t
+    → IsRising (width_of p) t.objective
 opened_rising p os t is o x = record {
   is = λ j least most. ⊎_elim
       (λ (column : j < slacks_from p).
@@ -117,7 +121,9 @@ opened_rising p os t is o x = record {
 }
 
 -- the opening makes a right tableau
-pub opening_right : (p : Program) (os : List (ℕ × ℕ)) → IsProgram p → Opens p os → IsSound (all_lines p) (width_of p) (opened os (length os) (first_tableau p)) × IsRising (width_of p) (opened os (length os) (first_tableau p)).objective
+pub opening_right : (p : Program) (os : List (ℕ × ℕ)) → IsProgram p → Opens p os
+    → IsSound (all_lines p) (width_of p) (opened os (length os) (first_tableau p))
+    × IsRising (width_of p) (opened os (length os) (first_tableau p)).objective
 opening_right p os is o =
     let x = opened_is p os (length os) is o (omega arith) in
     (x.sound, opened_rising p os (opened os (length os) (first_tableau p)) is o x)

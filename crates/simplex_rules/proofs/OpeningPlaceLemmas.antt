@@ -16,7 +16,8 @@ use Rattle.simplex_rules.specs.OpeningPlaceLaws.{line_is, cost_there, places_len
 
 -- ---- the line of a row
 
-line_right : (p : Program) (k : ℕ) → k < length p.rows → coefficient_at p (line_place p.rows k) 0 ≡ (row_at p.rows k).right
+line_right : (p : Program) (k : ℕ) → k < length p.rows
+    → coefficient_at p (line_place p.rows k) 0 ≡ (row_at p.rows k).right
 line_right p k below =
     let l = line_is p.rows (slacks_from p) k below in
     let low = l.low in

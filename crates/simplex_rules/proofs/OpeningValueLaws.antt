@@ -37,7 +37,8 @@ total_without n b c below =
     omega (arith, ints, one, plus, same)
 
 -- a sum over the places that are not 0
-total_over : (n m : ℕ) (c : ℕ → ℤ) (row : ℕ → ℕ) → ((i : ℕ) → i < m → row i < n) → ((i k : ℕ) → i < m → k < m → (i ≡ k → ⊥) → row i ≡ row k → ⊥)
+total_over : (n m : ℕ) (c : ℕ → ℤ) (row : ℕ → ℕ) → ((i : ℕ) → i < m → row i < n)
+    → ((i k : ℕ) → i < m → k < m → (i ≡ k → ⊥) → row i ≡ row k → ⊥)
     → ((k : ℕ) → k < n → ((i : ℕ) → i < m → k ≡ row i → ⊥) → c k ≡ pos 0) → total n c ≡ total m (λ i. c (row i))
 total_over n zero c row below apart none = total_nothing n c (λ k less. none k less (λ i few same. absurd (omega arith)))
 total_over n (suc m) c row below apart none =
@@ -55,14 +56,16 @@ total_over n (suc m) c row below apart none =
     total_same m (λ i. if row i == row m then pos 0 else c (row i)) (λ i. c (row i)) (λ i less. rw (ne_eqb (row i) b (apart i m (omega arith) (omega arith) (λ (z : i ≡ m). absurd (omega arith)))) refl) in
     omega (arith, ints, out, rest, same)
 
-combination_total : (gs : List Generator) (f : ℕ → ℤ) (j : ℕ) → combination gs f j ≡ total (length gs) (λ k. f (generator_at gs k).0 *ℤ coefficient (generator_at gs k).1 j)
+combination_total : (gs : List Generator) (f : ℕ → ℤ) (j : ℕ)
+    → combination gs f j ≡ total (length gs) (λ k. f (generator_at gs k).0 *ℤ coefficient (generator_at gs k).1 j)
 combination_total [] f j = refl
 combination_total (g ∷ gs) f j = omega (arith, ints, combination_total gs f j, total_first (length gs) (λ k. f (generator_at (g ∷ gs) k).0 *ℤ coefficient (generator_at (g ∷ gs) k).1 j))
 
 nothing_times : (u z : ℤ) → u ≡ pos 0 → u *ℤ z ≡ pos 0
 nothing_times u z e = rw e (omega (arith, ints))
 
-opened_value : (p : Program) (os : List (ℕ × ℕ)) (t : Tableau) → Opens p os → IsOpened p os (length os) t → entry t.objective 0 ≡ entry t.objective 1 *ℤ opening_sum p os
+opened_value : (p : Program) (os : List (ℕ × ℕ)) (t : Tableau) → Opens p os → IsOpened p os (length os) t
+    → entry t.objective 0 ≡ entry t.objective 1 *ℤ opening_sum p os
 opened_value p os t o x =
     let d = entry t.objective in
     let none : cost_of p 0 ≡ pos 0 = omega (arith, ints, cost_terms_low p.costs 2 0 (omega arith), term_elsewhere 1 0 (pos 1) (λ (z : 1 ≡ 0). absurd (omega arith))) in

@@ -51,7 +51,8 @@ place_is p b (x ∷ xs) r found = by_test (p x)
     let low = rest.low in
     record { later = suc rest.later; is = omega (arith, is); low = omega (arith, low); passes = rest.passes })
 
-place_found : {A : Type 0} (p : A → Bool) (b : ℕ) (xs : List A) (x : A) → Contains xs x → p x ≡ true → (r : ℕ) × (place_of p b xs ≡ Some r)
+place_found : {A : Type 0} (p : A → Bool) (b : ℕ) (xs : List A) (x : A) → Contains xs x → p x ≡ true
+    → (r : ℕ) × (place_of p b xs ≡ Some r)
 place_found p b [] x there passes = no_member x there
 place_found p b (y ∷ xs) x there passes = by_test (p y)
     (λ is. (b, rw is refl))
@@ -61,17 +62,20 @@ place_found p b (y ∷ xs) x there passes = by_test (p y)
 
 -- ---- lists by places
 
-column_weight : (f : Column → ℤ) (cs : List Column) (e : ℕ) (d : Column) → e < length cs → weight_at f cs e ≡ f (get_or cs e d)
+column_weight : (f : Column → ℤ) (cs : List Column) (e : ℕ) (d : Column) → e < length cs
+    → weight_at f cs e ≡ f (get_or cs e d)
 column_weight f [] e d low = absurd (omega arith)
 column_weight f (c ∷ cs) zero d low = refl
 column_weight f (c ∷ cs) (suc e) d low = column_weight f cs e d (omega arith)
 
-row_there : (columns : List Column) (w : Constraint → Weighing) (ks : List Constraint) (k : ℕ) (d : Constraint) → k < length ks → row_at (map (λ c. row_of columns (w c)) ks) k ≡ row_of columns (w (get_or ks k d))
+row_there : (columns : List Column) (w : Constraint → Weighing) (ks : List Constraint) (k : ℕ) (d : Constraint)
+    → k < length ks → row_at (map (λ c. row_of columns (w c)) ks) k ≡ row_of columns (w (get_or ks k d))
 row_there columns w [] k d low = absurd (omega arith)
 row_there columns w (c ∷ ks) zero d low = refl
 row_there columns w (c ∷ ks) (suc k) d low = row_there columns w ks k d (omega arith)
 
-cost_there : (f : Column → ℕ) (cs : List Column) (e : ℕ) (d : Column) → e < length cs → cost_at (map f cs) e ≡ f (get_or cs e d)
+cost_there : (f : Column → ℕ) (cs : List Column) (e : ℕ) (d : Column) → e < length cs
+    → cost_at (map f cs) e ≡ f (get_or cs e d)
 cost_there f [] e d low = absurd (omega arith)
 cost_there f (c ∷ cs) zero d low = refl
 cost_there f (c ∷ cs) (suc e) d low = cost_there f cs e d (omega arith)
@@ -81,7 +85,8 @@ from_low n e [] d are low = absurd (omega arith)
 from_low n zero (c ∷ cs) d are low = are.0
 from_low n (suc e) (c ∷ cs) d are low = from_low n e cs d are.1 (omega arith)
 
-limit_weighs : (o : Shape) (k : Constraint) (n : ℕ) (c : Column) → is_limit_of n k ≡ true → (weighing_of o k).weight c ≡ leaves n c
+limit_weighs : (o : Shape) (k : Constraint) (n : ℕ) (c : Column) → is_limit_of n k ≡ true
+    → (weighing_of o k).weight c ≡ leaves n c
 limit_weighs o (Limit m high) n c is = let same : n ≡ m = eqb-true n m is in ap (λ (i : ℕ). leaves i c) (sym same)
 limit_weighs o (Flow m) n c is = absurd cc
 limit_weighs o (Most s h m high) n c is = absurd cc
@@ -107,7 +112,8 @@ module _ (columns : List Column) (ks : List Constraint) where
   widened : (b : ℕ) (x : ℕ × ℕ) → IsFrom (b + 1) x → IsFrom b x
   widened b x is = let above = is.above in record { node = is.node; above = omega (arith, above); opens = is.opens }
 
-  node_of : (m : ℕ) (x : ℕ × ℕ) (d : Column) → IsOpeningOf m x → (x.1 < length columns) × (m ≡ (get_or columns x.1 d).from)
+  node_of : (m : ℕ) (x : ℕ × ℕ) (d : Column) → IsOpeningOf m x
+      → (x.1 < length columns) × (m ≡ (get_or columns x.1 d).from)
   node_of m x d is =
       let place = place_is (λ (c : Column). m == c.from) 0 columns x.1 is.column in
       let low = place.low in
@@ -119,7 +125,8 @@ module _ (columns : List Column) (ks : List Constraint) where
       let d : Column = record { from = 0; into = 0; fault = false } in
       (node_of m x d a).1 ∙ sym (node_of l x d b).1
 
-  each_step : (b n : ℕ) (a c : Option ℕ) → place_of (λ k. is_limit_of b k) 0 ks ≡ a → place_of (λ (k : Column). b == k.from) 0 columns ≡ c
+  each_step : (b n : ℕ) (a c : Option ℕ) → place_of (λ k. is_limit_of b k) 0 ks ≡ a
+      → place_of (λ (k : Column). b == k.from) 0 columns ≡ c
       → ((i : ℕ) → i < length (opened_nodes (b + 1) n) → IsFrom (b + 1) (opening_at (opened_nodes (b + 1) n) i))
       → (i : ℕ) → i < length (both_of a c ++ opened_nodes (b + 1) n) → IsFrom b (opening_at (both_of a c ++ opened_nodes (b + 1) n) i)
   each_step b n None c fa gc later i below = widened b (opening_at (opened_nodes (b + 1) n) i) (later i below)
@@ -132,7 +139,8 @@ module _ (columns : List Column) (ks : List Constraint) where
   each_from b (suc n) i below = each_step b n (place_of (λ k. is_limit_of b k) 0 ks) (place_of (λ (k : Column). b == k.from) 0 columns) refl refl (each_from (b + 1) n) i below
 
   -- the nodes of the openings rise
-  rise_step : (b n : ℕ) (a c : Option ℕ) → place_of (λ k. is_limit_of b k) 0 ks ≡ a → place_of (λ (k : Column). b == k.from) 0 columns ≡ c
+  rise_step : (b n : ℕ) (a c : Option ℕ) → place_of (λ k. is_limit_of b k) 0 ks ≡ a
+      → place_of (λ (k : Column). b == k.from) 0 columns ≡ c
       → ((i k m l : ℕ) → i < k → k < length (opened_nodes (b + 1) n) → IsOpeningOf m (opening_at (opened_nodes (b + 1) n) i) → IsOpeningOf l (opening_at (opened_nodes (b + 1) n) k) → m < l)
       → (i k m l : ℕ) → i < k → k < length (both_of a c ++ opened_nodes (b + 1) n) → IsOpeningOf m (opening_at (both_of a c ++ opened_nodes (b + 1) n) i) → IsOpeningOf l (opening_at (both_of a c ++ opened_nodes (b + 1) n) k) → m < l
   rise_step b n None c fa gc later i k m l less below x y = later i k m l less below x y
@@ -146,7 +154,8 @@ module _ (columns : List Column) (ks : List Constraint) where
       omega (arith, first, above, same)
   rise_step b n (Some r) (Some e) fa gc later (suc i) (suc k) m l less below x y = later i k m l (omega arith) (omega arith) x y
 
-  nodes_rise : (b n i k m l : ℕ) → i < k → k < length (opened_nodes b n) → IsOpeningOf m (opening_at (opened_nodes b n) i) → IsOpeningOf l (opening_at (opened_nodes b n) k) → m < l
+  nodes_rise : (b n i k m l : ℕ) → i < k → k < length (opened_nodes b n)
+      → IsOpeningOf m (opening_at (opened_nodes b n) i) → IsOpeningOf l (opening_at (opened_nodes b n) k) → m < l
   nodes_rise b zero i k m l less below x y = absurd (omega arith)
   nodes_rise b (suc n) i k m l less below x y = rise_step b n (place_of (λ j. is_limit_of b j) 0 ks) (place_of (λ (j : Column). b == j.from) 0 columns) refl refl (nodes_rise (b + 1) n) i k m l less below x y
 
@@ -156,12 +165,14 @@ module _ (columns : List Column) (ks : List Constraint) where
     below : at_index < length os
     opens : IsOpeningOf m (opening_at os at_index)
 
-  has_step : (b n m : ℕ) (a c : Option ℕ) → HasOpening (opened_nodes (b + 1) n) m → HasOpening (both_of a c ++ opened_nodes (b + 1) n) m
+  has_step : (b n m : ℕ) (a c : Option ℕ) → HasOpening (opened_nodes (b + 1) n) m
+      → HasOpening (both_of a c ++ opened_nodes (b + 1) n) m
   has_step b n m None c is = is
   has_step b n m (Some r) None is = is
   has_step b n m (Some r) (Some e) is = let below = is.below in record { at_index = suc is.at_index; below = omega (arith, below); opens = is.opens }
 
-  has_opening : (b n m r e : ℕ) → b ≤ m → m < b + n → place_of (λ k. is_limit_of m k) 0 ks ≡ Some r → place_of (λ (k : Column). m == k.from) 0 columns ≡ Some e → HasOpening (opened_nodes b n) m
+  has_opening : (b n m r e : ℕ) → b ≤ m → m < b + n → place_of (λ k. is_limit_of m k) 0 ks ≡ Some r
+      → place_of (λ (k : Column). m == k.from) 0 columns ≡ Some e → HasOpening (opened_nodes b n) m
   has_opening b zero m r e above below row column = absurd (omega arith)
   has_opening b (suc n) m r e above below row column = elim (cases_eq b m) [
     | inl same ↦
@@ -215,19 +226,22 @@ module _ (o : Outlined) (columns : List Column) (ks : List Constraint) (from : A
   column_low : (i : ℕ) → i < length os → (opening_at os i).1 < length columns
   column_low i below = (node_of columns ks (its_node i below).node (opening_at os i) no_column (its_node i below).opens).0
 
-  node_is : (i : ℕ) (below : i < length os) → (its_node i below).node ≡ (get_or columns (opening_at os i).1 no_column).from
+  node_is : (i : ℕ) (below : i < length os)
+      → (its_node i below).node ≡ (get_or columns (opening_at os i).1 no_column).from
   node_is i below = (node_of columns ks (its_node i below).node (opening_at os i) no_column (its_node i below).opens).1
 
   has_at : (i e : ℕ) (below : i < length os) → e < length columns → coefficient (row_at rows (opening_at os i).0).terms e ≡ leaves (its_node i below).node (get_or columns e no_column)
   has_at i e below low = (row_weighs columns ks (shape_of o) (its_node i below).node e (opening_at os i) no_column (its_node i below).opens low).1
 
-  apart_nodes : (i k m l : ℕ) → i < length os → k < length os → i ≢ k → IsOpeningOf columns ks m (opening_at os i) → IsOpeningOf columns ks l (opening_at os k) → m ≢ l
+  apart_nodes : (i k m l : ℕ) → i < length os → k < length os → i ≢ k → IsOpeningOf columns ks m (opening_at os i)
+      → IsOpeningOf columns ks l (opening_at os k) → m ≢ l
   apart_nodes i k m l a b other x y = elim (cases_lt i k) [
     | inl less ↦ λ same. let rises = nodes_rise columns ks 0 nodes i k m l less b x y in absurd (omega (arith, rises, same))
     | inr over ↦ λ same. let rises = nodes_rise columns ks 0 nodes k i l m (omega (arith, over, other)) a y x in absurd (omega (arith, rises, same))
   ]
 
-  covered : (e : ℕ) → e < length columns → IsOfOne (record { costs = map (λ c. cost_of (costs_of o) c) columns; rows = rows }) os e
+  covered : (e : ℕ) → e < length columns
+      → IsOfOne (record { costs = map (λ c. cost_of (costs_of o) c) columns; rows = rows }) os e
   covered e low =
       let c = get_or columns e no_column in
       let n = c.from in
@@ -262,28 +276,33 @@ module _ (o : Outlined) (columns : List Column) (ks : List Constraint) (from : A
 
 -- ---- facts
 
-in_flat : {A B : Type 0} (g : A → List B) (xs : List A) (x : A) (y : B) → Contains xs x → Contains (g x) y → Contains (flat_map g xs) y
+in_flat : {A B : Type 0} (g : A → List B) (xs : List A) (x : A) (y : B) → Contains xs x → Contains (g x) y
+    → Contains (flat_map g xs) y
 in_flat g [] x y there is = no_member x there
 in_flat g (z ∷ xs) x y there is = first_or_further z xs x there
     (λ same. Contains-append_left (g z) (flat_map g xs) y (subst (λ a. Contains (g a) y) (sym same) is))
     (λ later. Contains-append_right (g z) (flat_map g xs) y (in_flat g xs x y later is))
 
-dead_there : (o : Shape) (facts : List Fact) (n : ℕ) → Contains facts (Dead n) → Contains (constraints_of o facts) (Limit n 0)
+dead_there : (o : Shape) (facts : List Fact) (n : ℕ) → Contains facts (Dead n)
+    → Contains (constraints_of o facts) (Limit n 0)
 dead_there o facts n there =
     let found = in_flat (λ f. group_of o Deads f) facts (Dead n) (Limit n 0) there (first_member (Limit n 0) []) in
     Contains-append_right (map (λ m. Flow m) (nodes_of o)) _ (Limit n 0) (Contains-append_right (flat_map (λ f. group_of o Loops f) facts) _ (Limit n 0) (Contains-append_left (flat_map (λ f. group_of o Deads f) facts) _ (Limit n 0) found))
 
-total_there : (o : Shape) (facts : List Fact) (n low high : ℕ) → Contains facts (Total n low high) → Contains (constraints_of o facts) (Limit n high)
+total_there : (o : Shape) (facts : List Fact) (n low high : ℕ) → Contains facts (Total n low high)
+    → Contains (constraints_of o facts) (Limit n high)
 total_there o facts n low high there =
     let found = in_flat (λ f. group_of o Totals f) facts (Total n low high) (Limit n high) there (first_member (Limit n high) (Demand n low ∷ [])) in
     Contains-append_right (map (λ m. Flow m) (nodes_of o)) _ (Limit n high) (Contains-append_right (flat_map (λ f. group_of o Loops f) facts) _ (Limit n high) (Contains-append_right (flat_map (λ f. group_of o Deads f) facts) _ (Limit n high) (Contains-append_left (flat_map (λ f. group_of o Totals f) facts) _ (Limit n high) found)))
 
-limit_found : (o : Shape) (facts : List Fact) (n : ℕ) → IsLimited facts n → (r : ℕ) × (place_of (λ k. is_limit_of n k) 0 (constraints_of o facts) ≡ Some r)
+limit_found : (o : Shape) (facts : List Fact) (n : ℕ) → IsLimited facts n
+    → (r : ℕ) × (place_of (λ k. is_limit_of n k) 0 (constraints_of o facts) ≡ Some r)
 limit_found o facts n (inl dead) = place_found (λ k. is_limit_of n k) 0 (constraints_of o facts) (Limit n 0) (dead_there o facts n dead) (eq-eqb n n refl)
 limit_found o facts n (inr total) = place_found (λ k. is_limit_of n k) 0 (constraints_of o facts) (Limit n total.1) (total_there o facts n total.0 total.1 total.2) (eq-eqb n n refl)
 
 -- the openings of an outline and facts open their program
-pub outline_opens : (o : Outlined) (facts : List Fact) → IsOutline (shape_of o) → AreLimited (length o.nodes) facts → OpensRows (system_of o facts).program (system_of o facts).openings
+pub outline_opens : (o : Outlined) (facts : List Fact) → IsOutline (shape_of o) → AreLimited (length o.nodes) facts
+    → OpensRows (system_of o facts).program (system_of o facts).openings
 outline_opens o facts ok limited =
     let columns = columns_of (shape_of o) facts in
     let ks = constraints_of (shape_of o) facts in

@@ -21,7 +21,8 @@ use Rattle.simplex_rules.specs.ReadOff.{AreParts, IsReadOff, IsLeastPoint}
 -- ---- parts over one whole
 
 -- a column's part times the tableau's whole is its number times the point's whole
-part_is : (x : ℕ → ℤ) (w : ℤ) (point : List (ℤ × ℤ)) (e : ℕ) → AreParts x w point → e < length point → part_of point e *ℤ w ≡ x e *ℤ whole_of point
+part_is : (x : ℕ → ℤ) (w : ℤ) (point : List (ℤ × ℤ)) (e : ℕ) → AreParts x w point → e < length point
+    → part_of point e *ℤ w ≡ x e *ℤ whole_of point
 part_is x w [] e are below = absurd (omega arith)
 part_is x w (a ∷ more) zero are below =
     let one : (a.0 *ℤ whole_of more) *ℤ w ≡ whole_of more *ℤ (a.0 *ℤ w) = times_times a.0 (whole_of more) w ∙ swap_first a.0 (whole_of more) w in
@@ -33,14 +34,16 @@ part_is x w (a ∷ more) (suc e) are below =
     times_times a.1 (part_of more e) w ∙ ap (λ (z : ℤ). a.1 *ℤ z) rest ∙ swap_first a.1 (x (suc e)) (whole_of more)
 
 -- so of terms, and of the worth
-value_is : (ts : List (ℕ × ℤ)) (n : ℕ) (x y : ℕ → ℤ) (w v : ℤ) → IsWithin n ts → ((e : ℕ) → e < n → y e *ℤ w ≡ x e *ℤ v) → value_at ts y *ℤ w ≡ value_at ts x *ℤ v
+value_is : (ts : List (ℕ × ℤ)) (n : ℕ) (x y : ℕ → ℤ) (w v : ℤ) → IsWithin n ts → ((e : ℕ) → e < n → y e *ℤ w ≡ x e *ℤ v)
+    → value_at ts y *ℤ w ≡ value_at ts x *ℤ v
 value_is [] n x y w v within same = omega (arith, ints)
 value_is (t ∷ ts) n x y w v within same =
     let here : (t.1 *ℤ y t.0) *ℤ w ≡ (t.1 *ℤ x t.0) *ℤ v = times_times t.1 (y t.0) w ∙ ap (λ (z : ℤ). t.1 *ℤ z) (same t.0 within.0) ∙ sym (times_times t.1 (x t.0) v) in
     let later = value_is ts n x y w v within.1 same in
     omega (arith, ints, sum_times (t.1 *ℤ y t.0) (value_at ts y) w, sum_times (t.1 *ℤ x t.0) (value_at ts x) v, here, later)
 
-total_is : (n : ℕ) (c x y : ℕ → ℤ) (w v : ℤ) → ((e : ℕ) → e < n → y e *ℤ w ≡ x e *ℤ v) → total n (λ e. c e *ℤ y e) *ℤ w ≡ total n (λ e. c e *ℤ x e) *ℤ v
+total_is : (n : ℕ) (c x y : ℕ → ℤ) (w v : ℤ) → ((e : ℕ) → e < n → y e *ℤ w ≡ x e *ℤ v)
+    → total n (λ e. c e *ℤ y e) *ℤ w ≡ total n (λ e. c e *ℤ x e) *ℤ v
 total_is zero c x y w v same = omega (arith, ints)
 total_is (suc n) c x y w v same =
     let here : (c n *ℤ y n) *ℤ w ≡ (c n *ℤ x n) *ℤ v = times_times (c n) (y n) w ∙ ap (λ (z : ℤ). c n *ℤ z) (same n (omega arith)) ∙ sym (times_times (c n) (x n) v) in
@@ -49,7 +52,8 @@ total_is (suc n) c x y w v same =
 
 -- ---- rows
 
-meets_still : (equation : Bool) (a b right w v : ℤ) → pos 1 ≤ℤ w → pos 1 ≤ℤ v → b *ℤ w ≡ a *ℤ v → MeetsAs equation a (right *ℤ w) → MeetsAs equation b (right *ℤ v)
+meets_still : (equation : Bool) (a b right w v : ℤ) → pos 1 ≤ℤ w → pos 1 ≤ℤ v → b *ℤ w ≡ a *ℤ v
+    → MeetsAs equation a (right *ℤ w) → MeetsAs equation b (right *ℤ v)
 meets_still true a b right w v above whole same is =
     let one : w *ℤ b ≡ w *ℤ (right *ℤ v) = (let turned : w *ℤ b ≡ b *ℤ w = omega (arith, ints) in turned) ∙ same ∙ ap (λ (z : ℤ). z *ℤ v) is ∙ times_times right w v ∙ swap_first right w v in
     cancel_same w b (right *ℤ v) above one
@@ -63,7 +67,8 @@ meets_still false a b right w v above whole same is =
     omega (arith, ints, not_more)
 
 -- what was read off meets the rows, and is worth the dual value
-pub read_off_is : (p : Program) (x : Ended) (point : List (ℤ × ℤ)) → IsProgram p → Answers p x → x.end ≡ Least → IsReadOff p x.tableau point → IsLeastPoint p x point
+pub read_off_is : (p : Program) (x : Ended) (point : List (ℤ × ℤ)) → IsProgram p → Answers p x → x.end ≡ Least
+    → IsReadOff p x.tableau point → IsLeastPoint p x point
 read_off_is p x point is answers least read =
     let w = point_whole x.tableau in
     let v = whole_of point in

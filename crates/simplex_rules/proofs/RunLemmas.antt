@@ -38,18 +38,21 @@ pub record EndsRight (p : Program) (x : Ended) : Type 0 where
   pub right : IsRight p x.tableau
   pub end : EndsAs x.tableau x.end
 
-limit_right : (p : Program) (t : Tableau) (o : Option ℕ) → IsRight p t → IsLeaving t (length t.rows) o → EndsRight p (at_limit t o)
+limit_right : (p : Program) (t : Tableau) (o : Option ℕ) → IsRight p t → IsLeaving t (length t.rows) o
+    → EndsRight p (at_limit t o)
 limit_right p t None right is = record { right = right; end = is }
 limit_right p t (Some r) right is = record { right = right; end = tt }
 
-place_right : (p : Program) (made r : ℕ) (t : Tableau) (go_on : Tableau → Ended) (o : Option ℕ) → IsRight p t → r < length t.rows
+place_right : (p : Program) (made r : ℕ) (t : Tableau) (go_on : Tableau → Ended) (o : Option ℕ) → IsRight p t
+    → r < length t.rows
     → EnteringIs (held_at t.rows r).line t.objective (variables_of p) o → ((t' : Tableau) → IsRight p t' → EndsRight p (go_on t')) → EndsRight p (after_place p made r t go_on o)
 place_right p made r t go_on None right below is later = record { right = right; end = tt }
 place_right p made r t go_on (Some e) right below is later = by_test (pivot_wide p r e t)
     (λ (yes_ : pivot_wide p r e t ≡ true). rw yes_ (let out : EndsRight p (record { tableau = t; end = TooWide (suc made) }) = record { right = right; end = tt } in out))
     (λ (no_ : pivot_wide p r e t ≡ false). rw no_ (later (pivoted (neg_ℤ (pos 1)) r e t) (right_pivot p t r e right below is)))
 
-row_right : (p : Program) (made : ℕ) (t : Tableau) (go_on : Tableau → Ended) (o : Option ℕ) → IsRight p t → IsLeaving t (length t.rows) o
+row_right : (p : Program) (made : ℕ) (t : Tableau) (go_on : Tableau → Ended) (o : Option ℕ) → IsRight p t
+    → IsLeaving t (length t.rows) o
     → ((t' : Tableau) → IsRight p t' → EndsRight p (go_on t')) → EndsRight p (after_row p made t go_on o)
 row_right p made t go_on None right is later = record { right = right; end = is }
 row_right p made t go_on (Some r) right is later =
@@ -63,7 +66,8 @@ pub run_right : (p : Program) (n made : ℕ) (t : Tableau) → IsRight p t → E
 run_right p zero made t right = limit_right p t (leaving t) right (leaving_is t)
 run_right p (suc n) made t right = row_right p made t (run p n (suc made)) (leaving t) right (leaving_is t) (run_right p n (suc made))
 
-ends_least : (t : Tableau) (e : RunEnd) → EndsAs t e → e ≡ Least → (k : ℕ) → k < length t.rows → pos 0 ≤ℤ number_at t k 0
+ends_least : (t : Tableau) (e : RunEnd) → EndsAs t e → e ≡ Least → (k : ℕ) → k < length t.rows
+    → pos 0 ≤ℤ number_at t k 0
 ends_least t Least is same = is
 ends_least t (TooWide k) is same = cc
 ends_least t Pivots is same = cc
@@ -83,13 +87,15 @@ run_answers p n t right =
     }
 
 -- The rule from a program and its openings, with any number of pivots.
-pub rule_answers : (p : Program) (os : List (ℕ × ℕ)) (n : ℕ) → IsProgram p → Opens p os → Answers p (run p n 0 (opened os (length os) (first_tableau p)))
+pub rule_answers : (p : Program) (os : List (ℕ × ℕ)) (n : ℕ) → IsProgram p → Opens p os
+    → Answers p (run p n 0 (opened os (length os) (first_tableau p)))
 rule_answers p os n is o =
     let r = opening_right p os is o in
     run_answers p n (opened os (length os) (first_tableau p)) (record { sound = r.0; rising = r.1 })
 
 -- At `Least` no point that meets the rows is worth more, over its whole, than the point read off.
-pub least_greatest : (p : Program) (t : Tableau) (x : ℕ → ℤ) (w : ℤ) → IsProgram p → IsRight p t → pos 1 ≤ℤ w → MeetsAll p x w
+pub least_greatest : (p : Program) (t : Tableau) (x : ℕ → ℤ) (w : ℤ) → IsProgram p → IsRight p t → pos 1 ≤ℤ w
+    → MeetsAll p x w
     → (worth p x *ℤ point_whole t) ≤ℤ (worth p (basic_point t) *ℤ w)
 least_greatest p t x w is right whole meets =
     let d = entry t.objective 1 in
@@ -118,7 +124,8 @@ times_below (negsuc v) (negsuc w) p q = absurd (omega (arith, ints))
 
 -- Where some point meets the rows, a row with a negative right side has a place that can enter: else its numbers at
 -- the slacks would be multipliers without a cost and with a sum below 0.
-pub some_enters : (p : Program) (t : Tableau) (r : ℕ) (x : ℕ → ℤ) (w : ℤ) → IsProgram p → IsRight p t → r < length t.rows → number_at t r 0 <ℤ pos 0
+pub some_enters : (p : Program) (t : Tableau) (r : ℕ) (x : ℕ → ℤ) (w : ℤ) → IsProgram p → IsRight p t
+    → r < length t.rows → number_at t r 0 <ℤ pos 0
     → IsRising (width_of p) (held_at t.rows r).line → pos 1 ≤ℤ w → MeetsAll p x w → ⊥
 some_enters p t r x w is right below negative rising whole meets =
     let d = (held_at t.rows r).line in

@@ -25,7 +25,8 @@ low_edges : (n : ℕ) (es : List (ℕ × ℕ)) → ((u v : ℕ) → Contains es 
 low_edges n [] within = tt
 low_edges n (e ∷ es) within = (within e.0 e.1 (first_member e es), low_edges n es (λ u v there. within u v (further_member e es (u, v) there)))
 
-low_faults : (o : Shape) (p : ℕ → Bool) (b k n : ℕ) → b + k ≤ n → AreLow n (map (λ m. fault_column o m) (filter p (range_with_len b k)))
+low_faults : (o : Shape) (p : ℕ → Bool) (b k n : ℕ) → b + k ≤ n
+    → AreLow n (map (λ m. fault_column o m) (filter p (range_with_len b k)))
 low_faults o p b zero n low = tt
 low_faults o p b (suc k) n low =
     let later = low_faults o p (b + 1) k n (omega arith) in

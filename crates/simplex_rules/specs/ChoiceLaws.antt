@@ -40,7 +40,8 @@ leaving_is t = leaving_first t (length t.rows)
 -- Ratios.
 
 -- ratios over numbers above 0 are ordered through
-pub ratio_through : (a b c d x y : ℤ) → pos 1 ≤ℤ b → pos 1 ≤ℤ d → pos 1 ≤ℤ y → NoMore a b c d → NoMore c d x y → NoMore a b x y
+pub ratio_through : (a b c d x y : ℤ) → pos 1 ≤ℤ b → pos 1 ≤ℤ d → pos 1 ≤ℤ y → NoMore a b c d → NoMore c d x y
+    → NoMore a b x y
 ratio_through a b c d x y pb pd py p q =
     let one : ((a *ℤ d) *ℤ y) ≤ℤ ((c *ℤ b) *ℤ y) = times_rising (a *ℤ d) (c *ℤ b) y p (omega (arith, ints, py)) in
     let two : ((c *ℤ y) *ℤ b) ≤ℤ ((x *ℤ d) *ℤ b) = times_rising (c *ℤ y) (x *ℤ d) b q (omega (arith, ints, pb)) in
@@ -52,7 +53,8 @@ ratio_through a b c d x y pb pd py p q =
     let bare : pos 0 ≤ℤ ((x *ℤ b) -ℤ (a *ℤ y)) = cancel_at_least d ((x *ℤ b) -ℤ (a *ℤ y)) pd left in
     omega (arith, ints, bare)
 
-entering_step : (row d : List ℤ) (n : ℕ) (o : Option ℕ) → EnteringIs row d n o → EnteringIs row d (suc n) (entering_with row d (suc (suc n)) o)
+entering_step : (row d : List ℤ) (n : ℕ) (o : Option ℕ) → EnteringIs row d n o
+    → EnteringIs row d (suc n) (entering_with row d (suc (suc n)) o)
 entering_step row d n None is =
     let p = suc (suc n) in
     by_test (int_lt (entry row p) (pos 0))

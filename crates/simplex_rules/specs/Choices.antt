@@ -20,7 +20,8 @@ pub record IsEntering (row d : List ℤ) (n e : ℕ) : Type 0 where
   pub least : 2 ≤ e
   pub most : e < suc (suc n)
   pub below : entry row e <ℤ pos 0
-  pub ratio : (j : ℕ) → 2 ≤ j → j < suc (suc n) → entry row j <ℤ pos 0 → NoMore (entry d e) (neg_ℤ (entry row e)) (entry d j) (neg_ℤ (entry row j))
+  pub ratio : (j : ℕ) → 2 ≤ j → j < suc (suc n) → entry row j <ℤ pos 0
+      → NoMore (entry d e) (neg_ℤ (entry row e)) (entry d j) (neg_ℤ (entry row j))
 
 abbrev pub EnteringIs : List ℤ → List ℤ → ℕ → Option ℕ → Type 0
 EnteringIs row d n None = (j : ℕ) → 2 ≤ j → j < suc (suc n) → pos 0 ≤ℤ entry row j

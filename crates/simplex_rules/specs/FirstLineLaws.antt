@@ -38,7 +38,8 @@ coefficient_turned [] e = refl
 coefficient_turned (t ∷ ts) e = omega (arith, ints, term_turned t.0 e t.1, coefficient_turned ts e)
 
 -- a row's line at the place of a column, and at the right side
-pub slack_line_column : (right : ℤ) (ts : List (ℕ × ℤ)) (s e : ℕ) → suc (suc e) < s → coefficient (slack_line right ts s).1 (suc (suc e)) ≡ coefficient ts e
+pub slack_line_column : (right : ℤ) (ts : List (ℕ × ℤ)) (s e : ℕ) → suc (suc e) < s
+    → coefficient (slack_line right ts s).1 (suc (suc e)) ≡ coefficient ts e
 slack_line_column right ts s e below =
     omega (
       arith,

@@ -63,7 +63,8 @@ spread_is w ts i within = ⊎_elim
 
 -- Generators with marks of their own.
 
-slack_own : (right : ℤ) (ts : List (ℕ × ℤ)) (cols s w : ℕ) → IsWithin cols ts → suc (suc cols) ≤ s → s < w → IsOwn (suc (suc cols)) w (slack_line right ts s)
+slack_own : (right : ℤ) (ts : List (ℕ × ℤ)) (cols s w : ℕ) → IsWithin cols ts → suc (suc cols) ≤ s → s < w
+    → IsOwn (suc (suc cols)) w (slack_line right ts s)
 slack_own right ts cols s w within least most =
     let in_place = within_placed cols ts within in
     record {
@@ -74,7 +75,8 @@ slack_own right ts cols s w within least most =
       most = most;
     }
 
-marked_step : (b : Bool) (r : Row) (cols s w : ℕ) (more : List Generator) → IsWithin cols r.terms → suc (suc cols) ≤ s → next_slack b s ≤ w
+marked_step : (b : Bool) (r : Row) (cols s w : ℕ) (more : List Generator) → IsWithin cols r.terms → suc (suc cols) ≤ s
+    → next_slack b s ≤ w
     → AreMarked (suc (suc cols)) w (next_slack b s) more → AreMarked (suc (suc cols)) w s (row_lines b r s more)
 marked_step false r cols s w more within least most rest = (omega arith, slack_own r.right r.terms cols s w within least (omega arith), rest)
 marked_step true r cols s w more within least most rest = (
@@ -87,7 +89,8 @@ next_most : (b : Bool) (s : ℕ) → s ≤ next_slack b s
 next_most true s = omega arith
 next_most false s = omega arith
 
-pub marked : (rs : List Row) (cols s w : ℕ) → ((k : ℕ) → IsWithin cols (row_at rs k).terms) → suc (suc cols) ≤ s → width_from rs s ≤ w → AreMarked (suc (suc cols)) w s (generators rs s)
+pub marked : (rs : List Row) (cols s w : ℕ) → ((k : ℕ) → IsWithin cols (row_at rs k).terms) → suc (suc cols) ≤ s
+    → width_from rs s ≤ w → AreMarked (suc (suc cols)) w s (generators rs s)
 marked [] cols s w within least most = tt
 marked (r ∷ rs) cols s w within least most =
     let next_ = next_slack r.equation s in
@@ -98,28 +101,33 @@ pub held_count : (w : ℕ) (gs : List Generator) → length (held_of w gs) ≡ l
 held_count w [] = refl
 held_count w (g ∷ gs) = ap suc (held_count w gs)
 
-pub held_is : (w : ℕ) (gs : List Generator) (k : ℕ) → k < length gs → held_at (held_of w gs) k ≡ record { basic = (generator_at gs k).0; line = spread w 0 (generator_at gs k).1 }
+pub held_is : (w : ℕ) (gs : List Generator) (k : ℕ) → k < length gs
+    → held_at (held_of w gs) k ≡ record { basic = (generator_at gs k).0; line = spread w 0 (generator_at gs k).1 }
 held_is w [] k below = absurd (omega arith)
 held_is w (g ∷ gs) zero below = refl
 held_is w (g ∷ gs) (suc k) below = held_is w gs k (omega arith)
 
-pub own_at : (n w s : ℕ) (gs : List Generator) (k : ℕ) → AreMarked n w s gs → k < length gs → IsOwn n w (generator_at gs k)
+pub own_at : (n w s : ℕ) (gs : List Generator) (k : ℕ) → AreMarked n w s gs → k < length gs
+    → IsOwn n w (generator_at gs k)
 own_at n w s [] k m below = absurd (omega arith)
 own_at n w s (g ∷ gs) zero m below = m.1
 own_at n w s (g ∷ gs) (suc k) m below = own_at n w (suc g.0) gs k m.2 (omega arith)
 
-pub mark_least : (n w s : ℕ) (gs : List Generator) (k : ℕ) → AreMarked n w s gs → k < length gs → s ≤ (generator_at gs k).0
+pub mark_least : (n w s : ℕ) (gs : List Generator) (k : ℕ) → AreMarked n w s gs → k < length gs
+    → s ≤ (generator_at gs k).0
 mark_least n w s [] k m below = absurd (omega arith)
 mark_least n w s (g ∷ gs) zero m below = m.0
 mark_least n w s (g ∷ gs) (suc k) m below = omega (arith, m.0, mark_least n w (suc g.0) gs k m.2 (omega arith))
 
-marks_rise : (n w s : ℕ) (gs : List Generator) (k i : ℕ) → AreMarked n w s gs → k < i → i < length gs → (generator_at gs k).0 < (generator_at gs i).0
+marks_rise : (n w s : ℕ) (gs : List Generator) (k i : ℕ) → AreMarked n w s gs → k < i → i < length gs
+    → (generator_at gs k).0 < (generator_at gs i).0
 marks_rise n w s [] k i m less below = absurd (omega arith)
 marks_rise n w s (g ∷ gs) k zero m less below = absurd (omega arith)
 marks_rise n w s (g ∷ gs) zero (suc i) m less below = mark_least n w (suc g.0) gs i m.2 (omega arith)
 marks_rise n w s (g ∷ gs) (suc k) (suc i) m less below = marks_rise n w (suc g.0) gs k i m.2 (omega arith) (omega arith)
 
-pub marks_apart : (n w s : ℕ) (gs : List Generator) (k i : ℕ) → AreMarked n w s gs → k < length gs → i < length gs → (k ≡ i → ⊥) → (generator_at gs i).0 ≡ (generator_at gs k).0 → ⊥
+pub marks_apart : (n w s : ℕ) (gs : List Generator) (k i : ℕ) → AreMarked n w s gs → k < length gs → i < length gs
+    → (k ≡ i → ⊥) → (generator_at gs i).0 ≡ (generator_at gs k).0 → ⊥
 marks_apart n w s gs k i m below below' d same = ⊎_elim
     (λ (less : k < i). absurd (omega (arith, marks_rise n w s gs k i m less below', same)))
     (λ (more : i ≤ k). absurd (omega (arith, marks_rise n w s gs i k m (⊎_elim (λ (q : k ≡ i). absurd (d q)) (λ (x : k ≡ i → ⊥). let h : i < k = omega arith in h) (cases_eq k i)) below, same)))
@@ -129,13 +137,15 @@ nothing_times : (u z : ℤ) → u ≡ pos 0 → u *ℤ z ≡ pos 0
 nothing_times u z e = rw e (omega (arith, ints))
 
 -- a line that is 0 at each mark from s on
-none_spanned : (n w s : ℕ) (gs : List Generator) (f : ℕ → ℤ) (i : ℕ) → AreMarked n w s gs → ((j : ℕ) → s ≤ j → f j ≡ pos 0) → combination gs f i ≡ pos 0
+none_spanned : (n w s : ℕ) (gs : List Generator) (f : ℕ → ℤ) (i : ℕ) → AreMarked n w s gs
+    → ((j : ℕ) → s ≤ j → f j ≡ pos 0) → combination gs f i ≡ pos 0
 none_spanned n w s [] f i m none = refl
 none_spanned n w s (g ∷ gs) f i m none =
     omega (arith, ints, nothing_times (f g.0) (coefficient g.1 i) (none g.0 m.0), none_spanned n w (suc g.0) gs f i m.2 (λ j past. none j (omega (arith, m.0))))
 
 -- a generator is itself
-own_spanned : (n w s : ℕ) (gs : List Generator) (k i : ℕ) → n ≤ s → AreMarked n w s gs → k < length gs → combination gs (coefficient (generator_at gs k).1) i ≡ coefficient (generator_at gs k).1 i
+own_spanned : (n w s : ℕ) (gs : List Generator) (k i : ℕ) → n ≤ s → AreMarked n w s gs → k < length gs
+    → combination gs (coefficient (generator_at gs k).1) i ≡ coefficient (generator_at gs k).1 i
 own_spanned n w s [] k i least m below = absurd (omega arith)
 own_spanned n w s (g ∷ gs) zero i least m below =
     let rest : combination gs (coefficient g.1) i ≡ pos 0 = none_spanned n w (suc g.0) gs (coefficient g.1) i m.2 (λ j past. m.1.others j (omega (arith, m.0)) (λ (q : j ≡ g.0). absurd (omega arith))) in
@@ -148,14 +158,16 @@ own_spanned n w s (g ∷ gs) (suc k) i least m below =
     ((own_at n w (suc g.0) gs k m.2 (omega arith)).others g.0 (omega (arith, m.0)) (λ (q : g.0 ≡ h.0). absurd (omega (arith, far)))) in
     omega (arith, ints, gone, own_spanned n w (suc g.0) gs k i (omega (arith, m.0)) m.2 (omega arith))
 
-combination_same : (gs : List Generator) (f f' : ℕ → ℤ) (i : ℕ) → ((j : ℕ) → f j ≡ f' j) → combination gs f i ≡ combination gs f' i
+combination_same : (gs : List Generator) (f f' : ℕ → ℤ) (i : ℕ) → ((j : ℕ) → f j ≡ f' j)
+    → combination gs f i ≡ combination gs f' i
 combination_same [] f f' i same = refl
 combination_same (g ∷ gs) f f' i same =
     let one : f g.0 *ℤ coefficient g.1 i ≡ f' g.0 *ℤ coefficient g.1 i = ap (λ (t : ℤ). t *ℤ coefficient g.1 i) (same g.0) in
     omega (arith, ints, one, combination_same gs f f' i same)
 
 -- where each row is 0, so is each generator
-zeros_of : (n w s : ℕ) (gs : List Generator) (x : ℕ → ℤ) → AreMarked n w s gs → ((k : ℕ) → k < length gs → along w (entry (held_at (held_of w gs) k).line) x ≡ pos 0) → AreZero gs x
+zeros_of : (n w s : ℕ) (gs : List Generator) (x : ℕ → ℤ) → AreMarked n w s gs
+    → ((k : ℕ) → k < length gs → along w (entry (held_at (held_of w gs) k).line) x ≡ pos 0) → AreZero gs x
 zeros_of n w s [] x m rows = tt
 zeros_of n w s (g ∷ gs) x m rows = (
   sym (total_terms w g.1 x m.1.within) ∙ total_same w (λ j. coefficient g.1 j *ℤ x j) (λ j. entry (spread w 0 g.1) j *ℤ x j) (λ j below. ap (λ (t : ℤ). t *ℤ x j) (sym (spread_is w g.1 j m.1.within))) ∙ rows 0 (omega arith),

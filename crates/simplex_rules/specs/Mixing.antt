@@ -1,4 +1,5 @@
--- Lines as functions of the place: spans and values. Shows: the invariants need only `g f' = a f - b h`, whatever the factors.
+-- Lines as functions of the place: spans and values. Shows: the invariants need only `g f' = a f - b h`, whatever the
+-- factors.
 use Rattle.std.proofs.Common.{◌≡◌, ℕ, ℤ, pos, List, [], ◌∷◌}
 use Rattle.std.specs.Prelude.{◌+ℤ◌, ◌-ℤ◌, ◌*ℤ◌, ◌≤ℤ◌}
 use Rattle.ipet_rows.specs.Sums.{total, coefficient}

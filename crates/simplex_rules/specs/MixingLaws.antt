@@ -65,7 +65,8 @@ combination_mixed (k ∷ gs) g a b f h f' j m =
     omega (arith, ints, one, rest, times_sum g (f' k.0 *ℤ c) (combination gs f' j), times_sum a (f k.0 *ℤ c) (combination gs f j), times_sum b (h k.0 *ℤ c) (combination gs h j))
 
 -- a mixture of spanned lines is spanned
-pub spanned_mixed : (gs : List Generator) (g a b : ℤ) (f h f' : ℕ → ℤ) → IsMixed g a b f h f' → IsSpanned gs f → IsSpanned gs h → IsSpanned gs f'
+pub spanned_mixed : (gs : List Generator) (g a b : ℤ) (f h f' : ℕ → ℤ) → IsMixed g a b f h f' → IsSpanned gs f
+    → IsSpanned gs h → IsSpanned gs f'
 spanned_mixed gs g a b f h f' m sf sh = record {
   is = λ j. cancel_same g (f' j) (combination gs f' j) m.divisor
       (m.is j
@@ -75,7 +76,8 @@ spanned_mixed gs g a b f h f' m sf sh = record {
       ∙ sym (combination_mixed gs g a b f h f' j m));
 }
 
-combination_times : (gs : List Generator) (u : ℤ) (f f' : ℕ → ℤ) (j : ℕ) → ((i : ℕ) → f' i ≡ u *ℤ f i) → combination gs f' j ≡ u *ℤ combination gs f j
+combination_times : (gs : List Generator) (u : ℤ) (f f' : ℕ → ℤ) (j : ℕ) → ((i : ℕ) → f' i ≡ u *ℤ f i)
+    → combination gs f' j ≡ u *ℤ combination gs f j
 combination_times [] u f f' j e = omega (arith, ints)
 combination_times (k ∷ gs) u f f' j e =
     let c = coefficient k.1 j in
@@ -83,7 +85,8 @@ combination_times (k ∷ gs) u f f' j e =
     omega (arith, ints, one, combination_times gs u f f' j e, times_sum u (f k.0 *ℤ c) (combination gs f j))
 
 -- a multiple of a spanned line is spanned
-pub spanned_times : (gs : List Generator) (u : ℤ) (f f' : ℕ → ℤ) → ((i : ℕ) → f' i ≡ u *ℤ f i) → IsSpanned gs f → IsSpanned gs f'
+pub spanned_times : (gs : List Generator) (u : ℤ) (f f' : ℕ → ℤ) → ((i : ℕ) → f' i ≡ u *ℤ f i) → IsSpanned gs f
+    → IsSpanned gs f'
 spanned_times gs u f f' e sf = record { is = λ j. e j ∙ ap (λ (t : ℤ). u *ℤ t) (sf.is j) ∙ sym (combination_times gs u f f' j e) }
 
 -- Values: a line at the numbers x of the places.
@@ -93,7 +96,8 @@ along_times w u f f' x e =
     total_same w (λ j. f' j *ℤ x j) (λ j. u *ℤ (f j *ℤ x j)) (λ j below. ap (λ (t : ℤ). t *ℤ x j) (e j) ∙ times_times u (f j) (x j))
     ∙ total_times w u (λ j. f j *ℤ x j)
 
-pub along_mixed : (w : ℕ) (g a b : ℤ) (f h f' x : ℕ → ℤ) → IsMixed g a b f h f' → g *ℤ along w f' x ≡ (a *ℤ along w f x) -ℤ (b *ℤ along w h x)
+pub along_mixed : (w : ℕ) (g a b : ℤ) (f h f' x : ℕ → ℤ) → IsMixed g a b f h f'
+    → g *ℤ along w f' x ≡ (a *ℤ along w f x) -ℤ (b *ℤ along w h x)
 along_mixed w g a b f h f' x m =
     sym (total_times w g (λ j. f' j *ℤ x j))
     ∙ total_same w (λ j. g *ℤ (f' j *ℤ x j)) (λ j. (a *ℤ (f j *ℤ x j)) -ℤ (b *ℤ (h j *ℤ x j))) (λ j below. mixed_term g a b (f j) (h j) (f' j) (x j) (m.is j))
@@ -103,7 +107,8 @@ along_mixed w g a b f h f' x m =
     rw (p, q) refl)
 
 -- where the mixture and the row are 0, so is the line
-pub zero_back : (w : ℕ) (g a b : ℤ) (f h f' x : ℕ → ℤ) → IsMixed g a b f h f' → along w f' x ≡ pos 0 → along w h x ≡ pos 0 → along w f x ≡ pos 0
+pub zero_back : (w : ℕ) (g a b : ℤ) (f h f' x : ℕ → ℤ) → IsMixed g a b f h f' → along w f' x ≡ pos 0
+    → along w h x ≡ pos 0 → along w f x ≡ pos 0
 zero_back w g a b f h f' x m p q =
     cancel_zero a (along w f x) m.factor
     (let e = along_mixed w g a b f h f' x m in

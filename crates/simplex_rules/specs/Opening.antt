@@ -12,4 +12,5 @@ pub record IsOpened (p : Program) (os : List (ℕ × ℕ)) (m : ℕ) (t : Tablea
   pub sound : IsSound (all_lines p) (width_of p) t
   pub count : length t.rows ≡ length (lines_of p)
   pub bases : (i : ℕ) → i < m → basic_at t (opening_at os i).0 ≡ (opening_at os i).1
-  pub others : (k : ℕ) → k < length (lines_of p) → ((i : ℕ) → i < m → k ≡ (opening_at os i).0 → ⊥) → basic_at t k ≡ mark_at p k
+  pub others : (k : ℕ) → k < length (lines_of p) → ((i : ℕ) → i < m → k ≡ (opening_at os i).0 → ⊥)
+      → basic_at t k ≡ mark_at p k

@@ -18,7 +18,9 @@ use Rattle.simplex_rules.specs.Opening.{IsOpened}
 
 -- Combinations with one part.
 
-pub combination_none : (gs : List Generator) (f : ℕ → ℤ) (j : ℕ) → ((k : ℕ) → k < length gs → f (generator_at gs k).0 *ℤ coefficient (generator_at gs k).1 j ≡ pos 0) → combination gs f j ≡ pos 0
+pub combination_none : (gs : List Generator) (f : ℕ → ℤ) (j : ℕ)
+    → ((k : ℕ) → k < length gs → f (generator_at gs k).0 *ℤ coefficient (generator_at gs k).1 j ≡ pos 0)
+    → combination gs f j ≡ pos 0
 combination_none [] f j none = refl
 combination_none (g ∷ gs) f j none = omega (arith, ints, none 0 (omega arith), combination_none gs f j (λ k below. none (suc k) (omega arith)))
 
@@ -60,7 +62,8 @@ find os (suc m) k = ⊎_elim
     (find os m k))
     (cases_eq k (opening_at os m).0)
 
-pub rows_apart : (p : Program) (os : List (ℕ × ℕ)) (i k : ℕ) → Opens p os → i < length os → k < length os → (i ≡ k → ⊥) → (opening_at os i).0 ≡ (opening_at os k).0 → ⊥
+pub rows_apart : (p : Program) (os : List (ℕ × ℕ)) (i k : ℕ) → Opens p os → i < length os → k < length os → (i ≡ k → ⊥)
+    → (opening_at os i).0 ≡ (opening_at os k).0 → ⊥
 rows_apart p os i k o below below' d same =
     let one : coefficient_at p (opening_at os k).0 (opening_at os k).1 ≡ pos 1 = o.own k below' in
     let none : coefficient_at p (opening_at os i).0 (opening_at os k).1 ≡ pos 0 = o.apart i k below below' d in
@@ -69,10 +72,12 @@ rows_apart p os i k o below below' d same =
 
 -- Before its pivot a row is a multiple of its first line.
 
-row_number : (p : Program) (t : Tableau) (r j : ℕ) → IsSound (all_lines p) (width_of p) t → r < length t.rows → number_at t r j ≡ combination (lines_of p) (number_at t r) j
+row_number : (p : Program) (t : Tableau) (r j : ℕ) → IsSound (all_lines p) (width_of p) t → r < length t.rows
+    → number_at t r j ≡ combination (lines_of p) (number_at t r) j
 row_number p t r j s below = omega (arith, ints, (s.spans r below).is j, nothing_times (number_at t r 1) (cost_of p j) (s.flat r below))
 
-mark_gone : (p : Program) (os : List (ℕ × ℕ)) (m i : ℕ) (t : Tableau) → Opens p os → m < length os → IsOpened p os m t → i < m
+mark_gone : (p : Program) (os : List (ℕ × ℕ)) (m i : ℕ) (t : Tableau) → Opens p os → m < length os → IsOpened p os m t
+    → i < m
     → number_at t (opening_at os m).0 (mark_at p (opening_at os i).0) ≡ pos 0
 mark_gone p os m i t o below x less =
     let r = (opening_at os m).0 in
@@ -113,7 +118,8 @@ opening_above p os m t o below x =
     rw (← x.others r (o.rows m below) (λ i less. rows_apart p os m i o below (omega arith) (λ (z : m ≡ i). absurd (omega arith)))) (x.sound.own r r_below) in
     omega (arith, ints, row_number p t r e x.sound r_below, alone, one, own)
 
-pub opened_is : (p : Program) (os : List (ℕ × ℕ)) (m : ℕ) → IsProgram p → Opens p os → m ≤ length os → IsOpened p os m (opened os m (first_tableau p))
+pub opened_is : (p : Program) (os : List (ℕ × ℕ)) (m : ℕ) → IsProgram p → Opens p os → m ≤ length os
+    → IsOpened p os m (opened os m (first_tableau p))
 opened_is p os zero is o most = record {
   sound = first_sound p is;
   count = held_count (width_of p) (lines_of p);

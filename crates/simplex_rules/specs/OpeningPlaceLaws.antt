@@ -20,11 +20,13 @@ pub record IsSlackLine (r : Row) (s : ℕ) (g : Generator) : Type 0 where
   pub low : s ≤ slack
   pub is : g ≡ slack_line r.right r.terms slack
 
-later_line : (b : Bool) (r : Row) (s k : ℕ) (more : List Generator) → generator_at (row_lines b r s more) (next_line b k) ≡ generator_at more k
+later_line : (b : Bool) (r : Row) (s k : ℕ) (more : List Generator)
+    → generator_at (row_lines b r s more) (next_line b k) ≡ generator_at more k
 later_line true r s k more = refl
 later_line false r s k more = refl
 
-first_line : (b : Bool) (r : Row) (s : ℕ) (more : List Generator) → generator_at (row_lines b r s more) 0 ≡ slack_line r.right r.terms s
+first_line : (b : Bool) (r : Row) (s : ℕ) (more : List Generator)
+    → generator_at (row_lines b r s more) 0 ≡ slack_line r.right r.terms s
 first_line true r s more = refl
 first_line false r s more = refl
 
@@ -32,7 +34,8 @@ slack_rises : (b : Bool) (s : ℕ) → s ≤ next_slack b s
 slack_rises true s = omega arith
 slack_rises false s = omega arith
 
-pub line_is : (rs : List Row) (s k : ℕ) → k < length rs → IsSlackLine (row_at rs k) s (generator_at (generators rs s) (line_place rs k))
+pub line_is : (rs : List Row) (s k : ℕ) → k < length rs
+    → IsSlackLine (row_at rs k) s (generator_at (generators rs s) (line_place rs k))
 line_is [] s k below = absurd (omega arith)
 line_is (r ∷ rs) s zero below = record { slack = s; low = omega arith; is = first_line r.equation r s (generators rs (next_slack r.equation s)) }
 line_is (r ∷ rs) s (suc k) below =
@@ -41,7 +44,8 @@ line_is (r ∷ rs) s (suc k) below =
     let rises = slack_rises r.equation s in
     record { slack = later.slack; low = omega (arith, low, rises); is = later_line r.equation r s (line_place rs k) (generators rs (next_slack r.equation s)) ∙ later.is }
 
-count_lines : (b : Bool) (r : Row) (s k : ℕ) (more : List Generator) → k < length more → next_line b k < length (row_lines b r s more)
+count_lines : (b : Bool) (r : Row) (s k : ℕ) (more : List Generator) → k < length more
+    → next_line b k < length (row_lines b r s more)
 count_lines true r s k more below = omega arith
 count_lines false r s k more below = omega arith
 
@@ -55,7 +59,8 @@ line_low (r ∷ rs) s zero below = some_lines r.equation r s (generators rs (nex
 line_low (r ∷ rs) s (suc k) below = count_lines r.equation r s (line_place rs k) (generators rs (next_slack r.equation s)) (line_low rs (next_slack r.equation s) k (omega arith))
 
 -- what the line of a row has at the place of a column, and at the right side
-line_column : (p : Program) (k e : ℕ) → k < length p.rows → e < length p.costs → coefficient_at p (line_place p.rows k) (suc (suc e)) ≡ coefficient (row_at p.rows k).terms e
+line_column : (p : Program) (k e : ℕ) → k < length p.rows → e < length p.costs
+    → coefficient_at p (line_place p.rows k) (suc (suc e)) ≡ coefficient (row_at p.rows k).terms e
 line_column p k e below within =
     let l = line_is p.rows (slacks_from p) k below in
     let low = l.low in
@@ -74,7 +79,8 @@ pub places_length : (rows : List Row) (os : List (ℕ × ℕ)) → length (openi
 places_length rows [] = refl
 places_length rows (o ∷ os) = ap suc (places_length rows os)
 
-place_at : (rows : List Row) (os : List (ℕ × ℕ)) (i : ℕ) → i < length os → opening_at (opening_places rows os) i ≡ (line_place rows (opening_at os i).0, suc (suc (opening_at os i).1))
+place_at : (rows : List Row) (os : List (ℕ × ℕ)) (i : ℕ) → i < length os
+    → opening_at (opening_places rows os) i ≡ (line_place rows (opening_at os i).0, suc (suc (opening_at os i).1))
 place_at rows [] i below = absurd (omega arith)
 place_at rows (o ∷ os) zero below = refl
 place_at rows (o ∷ os) (suc i) below = place_at rows os i (omega arith)
@@ -99,7 +105,8 @@ module _ (p : Program) (os : List (ℕ × ℕ)) (o : OpensRows p os) where
   within i below = let long = places_length p.rows os in omega (arith, below, long)
 
   -- what the opening i has at a column
-  at_column : (i e : ℕ) → i < length os → e < length p.costs → coefficient_at p (opening_at places i).0 (suc (suc e)) ≡ coefficient (row_at p.rows (row_of i)).terms e
+  at_column : (i e : ℕ) → i < length os → e < length p.costs
+      → coefficient_at p (opening_at places i).0 (suc (suc e)) ≡ coefficient (row_at p.rows (row_of i)).terms e
   at_column i e below low = ap (λ (k : ℕ). coefficient_at p k (suc (suc e))) (line_at i below) ∙ line_column p (row_of i) e (o.rows i below) low
 
   at_opening : (i k : ℕ) → i < length os → k < length os → coefficient_at p (opening_at places i).0 (opening_at places k).1 ≡ coefficient (row_at p.rows (row_of i)).terms (column_of k)

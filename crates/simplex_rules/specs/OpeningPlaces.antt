@@ -39,7 +39,8 @@ pub record OpensRows (p : Program) (os : List (ℕ × ℕ)) : Type 0 where
   pub rows : (i : ℕ) → i < length os → (opening_at os i).0 < length p.rows
   pub columns : (i : ℕ) → i < length os → (opening_at os i).1 < length p.costs
   pub own : (i : ℕ) → i < length os → coefficient (row_at p.rows (opening_at os i).0).terms (opening_at os i).1 ≡ pos 1
-  pub apart : (i k : ℕ) → i < length os → k < length os → (i ≡ k → ⊥) → coefficient (row_at p.rows (opening_at os i).0).terms (opening_at os k).1 ≡ pos 0
+  pub apart : (i k : ℕ) → i < length os → k < length os → (i ≡ k → ⊥)
+      → coefficient (row_at p.rows (opening_at os i).0).terms (opening_at os k).1 ≡ pos 0
   pub covers : (e : ℕ) → e < length p.costs → IsOfOne p os e
 
 -- the tableau after the opening

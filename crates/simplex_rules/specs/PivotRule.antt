@@ -100,7 +100,8 @@ handed_wide p t = is_wide (verdict p (entry t.objective 1) (multipliers p.rows (
 abbrev pub line_wide : List ℤ → Bool
 line_wide f = list_any (λ x. not (fits x)) f
 
--- some number of the pivot is wide: of the row that leaves, turned, of the other rows, the objective, and the test of the multipliers
+-- some number of the pivot is wide: of the row that leaves, turned, of the other rows, the objective, and the test of
+-- the multipliers
 abbrev pub pivot_wide : Program → ℕ → ℕ → Tableau → Bool
 pivot_wide p r e t =
     let h = times_line (neg_ℤ (pos 1)) (held_at t.rows r).line in

@@ -22,7 +22,8 @@ pub record IsPivot (old new : Tableau) (r e : ℕ) (u : ℤ) : Type 0 where
   pub basic : basic_at new r ≡ e
   pub row : (j : ℕ) → number_at new r j ≡ u *ℤ number_at old r j
   pub above : pos 1 ≤ℤ number_at new r e
-  pub others : (k : ℕ) → k < length old.rows → (k ≡ r → ⊥) → IsCleared e (number_at old k) (number_at new r) (number_at new k)
+  pub others : (k : ℕ) → k < length old.rows → (k ≡ r → ⊥)
+      → IsCleared e (number_at old k) (number_at new r) (number_at new k)
   pub keeps : (k : ℕ) → k < length old.rows → (k ≡ r → ⊥) → basic_at new k ≡ basic_at old k
   pub objective : IsCleared e (entry old.objective) (number_at new r) (entry new.objective)
 
@@ -36,7 +37,8 @@ AreZero (g ∷ gs) x = (value_at g.1 x ≡ pos 0) × AreZero gs x
 pub record IsSound (gs : List Generator) (w : ℕ) (t : Tableau) : Type 0 where
   pub spans : (k : ℕ) → k < length t.rows → IsSpanned gs (number_at t k)
   pub spans_objective : IsSpanned gs (entry t.objective)
-  pub solves : (x : ℕ → ℤ) → ((k : ℕ) → k < length t.rows → along w (number_at t k) x ≡ pos 0) → along w (entry t.objective) x ≡ pos 0 → AreZero gs x
+  pub solves : (x : ℕ → ℤ) → ((k : ℕ) → k < length t.rows → along w (number_at t k) x ≡ pos 0)
+      → along w (entry t.objective) x ≡ pos 0 → AreZero gs x
   pub flat : (k : ℕ) → k < length t.rows → number_at t k 1 ≡ pos 0
   pub scale : pos 1 ≤ℤ entry t.objective 1
   pub least : (k : ℕ) → k < length t.rows → 2 ≤ basic_at t k

@@ -25,11 +25,13 @@ mixed_zero g a b f h f' j m p q = cancel_zero g (f' j) m.divisor (omega (arith, 
 pub mixed_even : (g a b : ℤ) (f h f' : ℕ → ℤ) (e : ℕ) → IsMixed g a b f h f' → a *ℤ f e ≡ b *ℤ h e → f' e ≡ pos 0
 mixed_even g a b f h f' e m even = cancel_zero g (f' e) m.divisor (omega (arith, ints, m.is e, even))
 
-pub mixed_above : (g a b : ℤ) (f h f' : ℕ → ℤ) (j : ℕ) → IsMixed g a b f h f' → pos 1 ≤ℤ f j → h j ≡ pos 0 → pos 1 ≤ℤ f' j
+pub mixed_above : (g a b : ℤ) (f h f' : ℕ → ℤ) (j : ℕ) → IsMixed g a b f h f' → pos 1 ≤ℤ f j → h j ≡ pos 0
+    → pos 1 ≤ℤ f' j
 mixed_above g a b f h f' j m p q = cancel_above g (f' j) m.divisor (omega (arith, ints, m.is j, product_above a (f j) m.factor p, times_nothing b (h j) q))
 
 -- a pivot keeps a tableau sound
-pub sound_pivot : (gs : List Generator) (w : ℕ) (old new : Tableau) (r e : ℕ) (u : ℤ) → IsSound gs w old → IsPivot old new r e u → 2 ≤ e → e < w → IsSound gs w new
+pub sound_pivot : (gs : List Generator) (w : ℕ) (old new : Tableau) (r e : ℕ) (u : ℤ) → IsSound gs w old
+    → IsPivot old new r e u → 2 ≤ e → e < w → IsSound gs w new
 sound_pivot gs w old new r e u s v least most =
     let h = number_at new r in
     let same : (k : ℕ) → k < length new.rows → k < length old.rows = λ k below. rw (← v.count) below in
@@ -103,7 +105,8 @@ sound_pivot gs w old new r e u s v least most =
     }
 
 -- the costs of the objective stay at least 0 where the place has the least ratio
-pub rising_pivot : (e : ℕ) (f h f' : ℕ → ℤ) (j : ℕ) → IsCleared e f h f' → pos 1 ≤ℤ h e → (f e *ℤ h j) ≤ℤ (f j *ℤ h e) → pos 0 ≤ℤ f' j
+pub rising_pivot : (e : ℕ) (f h f' : ℕ → ℤ) (j : ℕ) → IsCleared e f h f' → pos 1 ≤ℤ h e → (f e *ℤ h j) ≤ℤ (f j *ℤ h e)
+    → pos 0 ≤ℤ f' j
 rising_pivot e f h f' j c above ratio =
     let one : c.a *ℤ (f e *ℤ h j) ≡ (c.b *ℤ h e) *ℤ h j = sym (times_times c.a (f e) (h j)) ∙ ap (λ (t : ℤ). t *ℤ h j) c.even in
     let two : (c.b *ℤ h e) *ℤ h j ≡ h e *ℤ (c.b *ℤ h j) =

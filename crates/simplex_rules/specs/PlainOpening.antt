@@ -17,6 +17,8 @@ freed_of p os f m j = f j -ℤ total m (λ i. f (opening_at os i).1 *ℤ coeffic
 
 pub record IsPlain (p : Program) (os : List (ℕ × ℕ)) (m : ℕ) (t : Tableau) : Type 0 where
   pub count : length t.rows ≡ length (lines_of p)
-  pub rows : (i : ℕ) → i < length os → (j : ℕ) → number_at t (opening_at os i).0 j ≡ coefficient_at p (opening_at os i).0 j
-  pub others : (k : ℕ) → k < length (lines_of p) → ((i : ℕ) → i < length os → k ≡ (opening_at os i).0 → ⊥) → (j : ℕ) → number_at t k j ≡ freed_of p os (coefficient_at p k) m j
+  pub rows : (i : ℕ) → i < length os → (j : ℕ)
+      → number_at t (opening_at os i).0 j ≡ coefficient_at p (opening_at os i).0 j
+  pub others : (k : ℕ) → k < length (lines_of p) → ((i : ℕ) → i < length os → k ≡ (opening_at os i).0 → ⊥) → (j : ℕ)
+      → number_at t k j ≡ freed_of p os (coefficient_at p k) m j
   pub objective : (j : ℕ) → entry t.objective j ≡ freed_of p os (cost_of p) m j

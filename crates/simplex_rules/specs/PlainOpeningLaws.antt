@@ -38,7 +38,8 @@ by_one : (g a z : ℤ) → g ≡ pos 1 → g *ℤ a ≡ z → a ≡ z
 by_one g a z one is = let plain : pos 1 *ℤ a ≡ z = subst (λ (k : ℤ). k *ℤ a ≡ z) one is in omega (arith, ints, plain)
 
 -- a line freed of a place by a row that has 1 there, where one of its numbers stays 1
-pub cleared_plain : (e s : ℕ) (h f : List ℤ) → entry h e ≡ pos 1 → entry f s ≡ pos 1 → entry h s ≡ pos 0 → (j : ℕ) → entry (cleared e h f) j ≡ entry f j -ℤ (entry f e *ℤ entry h j)
+pub cleared_plain : (e s : ℕ) (h f : List ℤ) → entry h e ≡ pos 1 → entry f s ≡ pos 1 → entry h s ≡ pos 0 → (j : ℕ)
+    → entry (cleared e h f) j ≡ entry f j -ℤ (entry f e *ℤ entry h j)
 cleared_plain e s h f one own none j =
     let g = gcd (entry h e) (entry f e) in
     let a = int_div_euclid (entry h e) g in
@@ -63,17 +64,20 @@ cleared_plain e s h f one own none j =
 lines_marked : (p : Program) → IsProgram p → AreMarked (slacks_from p) (width_of p) (slacks_from p) (lines_of p)
 lines_marked p is = marked p.rows (length p.costs) (slacks_from p) (width_of p) is (omega arith) (omega arith)
 
-pub line_own : (p : Program) (k : ℕ) → IsProgram p → k < length (lines_of p) → IsOwn (slacks_from p) (width_of p) (generator_at (lines_of p) k)
+pub line_own : (p : Program) (k : ℕ) → IsProgram p → k < length (lines_of p)
+    → IsOwn (slacks_from p) (width_of p) (generator_at (lines_of p) k)
 line_own p k is below = own_at (slacks_from p) (width_of p) (slacks_from p) (lines_of p) k (lines_marked p is) below
 
 -- another line's mark
-pub line_other : (p : Program) (k i : ℕ) → IsProgram p → k < length (lines_of p) → i < length (lines_of p) → (k ≡ i → ⊥) → coefficient_at p k (mark_at p i) ≡ pos 0
+pub line_other : (p : Program) (k i : ℕ) → IsProgram p → k < length (lines_of p) → i < length (lines_of p) → (k ≡ i → ⊥)
+    → coefficient_at p k (mark_at p i) ≡ pos 0
 line_other p k i is below other apart =
     let n = slacks_from p in
     let m = lines_marked p is in
     (line_own p k is below).others (mark_at p i) (mark_least n (width_of p) n (lines_of p) i m other) (marks_apart n (width_of p) n (lines_of p) k i m below other apart)
 
-first_number : (p : Program) (k : ℕ) → IsProgram p → k < length (lines_of p) → (j : ℕ) → number_at (first_tableau p) k j ≡ coefficient_at p k j
+first_number : (p : Program) (k : ℕ) → IsProgram p → k < length (lines_of p) → (j : ℕ)
+    → number_at (first_tableau p) k j ≡ coefficient_at p k j
 first_number p k is below j =
     ap (λ (h : Held). entry h.line j) (held_is (width_of p) (lines_of p) k below) ∙ spread_is (width_of p) (generator_at (lines_of p) k).1 j (line_own p k is below).within
 
@@ -101,7 +105,8 @@ module _ (p : Program) (os : List (ℕ × ℕ)) (is : IsProgram p) (o : Opens p 
   place_of i = (opening_at os i).1
 
   -- a line freed of one place more, where one of its numbers stays 1
-  freed_more : (m q : ℕ) (g : ℕ → ℤ) (f h : List ℤ) → m < length os → ((j : ℕ) → entry h j ≡ coefficient_at p (row_of m) j) → ((j : ℕ) → entry f j ≡ freed_of p os g m j)
+  freed_more : (m q : ℕ) (g : ℕ → ℤ) (f h : List ℤ) → m < length os
+      → ((j : ℕ) → entry h j ≡ coefficient_at p (row_of m) j) → ((j : ℕ) → entry f j ≡ freed_of p os g m j)
       → g q ≡ pos 1 → ((i : ℕ) → i < length os → coefficient_at p (row_of i) q ≡ pos 0) → (j : ℕ) → entry (cleared (place_of m) h f) j ≡ freed_of p os g (suc m) j
   freed_more m q g f h below h_is f_is one none j =
       let e = place_of m in
@@ -116,7 +121,8 @@ module _ (p : Program) (os : List (ℕ × ℕ)) (is : IsProgram p) (o : Opens p 
       let product : entry f e *ℤ entry h j ≡ g e *ℤ coefficient_at p (row_of m) j = ap (λ (z : ℤ). z *ℤ entry h j) here ∙ ap (λ (z : ℤ). g e *ℤ z) (h_is j) in
       omega (arith, ints, freed, product, f_is j)
 
-  plain_step : (m : ℕ) (t : Tableau) → m < length os → IsPlain p os m t → IsPlain p os (suc m) (pivoted (pos 1) (row_of m) (place_of m) t)
+  plain_step : (m : ℕ) (t : Tableau) → m < length os → IsPlain p os m t
+      → IsPlain p os (suc m) (pivoted (pos 1) (row_of m) (place_of m) t)
   plain_step m t below plain =
       let r = row_of m in
       let e = place_of m in

@@ -75,7 +75,8 @@ pub record Opens (p : Program) (os : List (ℕ × ℕ)) : Type 0 where
   pub least : (i : ℕ) → i < length os → 2 ≤ (opening_at os i).1
   pub most : (i : ℕ) → i < length os → (opening_at os i).1 < slacks_from p
   pub own : (i : ℕ) → i < length os → coefficient_at p (opening_at os i).0 (opening_at os i).1 ≡ pos 1
-  pub apart : (i k : ℕ) → i < length os → k < length os → (i ≡ k → ⊥) → coefficient_at p (opening_at os i).0 (opening_at os k).1 ≡ pos 0
+  pub apart : (i k : ℕ) → i < length os → k < length os → (i ≡ k → ⊥)
+      → coefficient_at p (opening_at os i).0 (opening_at os k).1 ≡ pos 0
   pub covers : (j : ℕ) → 2 ≤ j → j < slacks_from p → IsCovered p os j
 
 -- what a tableau hands out

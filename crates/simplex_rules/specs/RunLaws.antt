@@ -33,7 +33,8 @@ minus_one : (z : ℤ) → neg_ℤ (pos 1) *ℤ z ≡ neg_ℤ z
 minus_one z = omega (arith, ints)
 
 -- the ratio of the place that enters bounds every other, also where the row's number is not below 0
-ratio_all : (row d : List ℤ) (n e j : ℕ) (hj he : ℤ) → IsEntering row d n e → hj ≡ neg_ℤ (entry row j) → he ≡ neg_ℤ (entry row e)
+ratio_all : (row d : List ℤ) (n e j : ℕ) (hj he : ℤ) → IsEntering row d n e → hj ≡ neg_ℤ (entry row j)
+    → he ≡ neg_ℤ (entry row e)
     → pos 0 ≤ℤ entry d e → pos 0 ≤ℤ entry d j → 2 ≤ j → j < suc (suc n) → (entry d e *ℤ hj) ≤ℤ (entry d j *ℤ he)
 ratio_all row d n e j hj he is q r pe pj two less =
     rw (q, r)
@@ -46,7 +47,8 @@ ratio_all row d n e j hj he is q r pe pj two less =
     omega (arith, ints, a, b)))
 
 -- a pivot of the rule keeps the tableau right
-pub right_pivot : (p : Program) (t : Tableau) (r e : ℕ) → IsRight p t → r < length t.rows → IsEntering (held_at t.rows r).line t.objective (variables_of p) e
+pub right_pivot : (p : Program) (t : Tableau) (r e : ℕ) → IsRight p t → r < length t.rows
+    → IsEntering (held_at t.rows r).line t.objective (variables_of p) e
     → IsRight p (pivoted (neg_ℤ (pos 1)) r e t)
 right_pivot p t r e right below is =
     let u : ℤ = neg_ℤ (pos 1) in

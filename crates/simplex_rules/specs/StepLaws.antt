@@ -62,7 +62,8 @@ entry_mixed a b (x ∷ f) [] (suc j) = entry_mixed a b f [] j
 entry_mixed a b (x ∷ f) (y ∷ h) zero = refl
 entry_mixed a b (x ∷ f) (y ∷ h) (suc j) = entry_mixed a b f h j
 
-pub entry_divided : (g : ℤ) (f : List ℤ) (j : ℕ) → pos 1 ≤ℤ g → ((i : ℕ) → Divides g (entry f i)) → g *ℤ entry (divided g f) j ≡ entry f j
+pub entry_divided : (g : ℤ) (f : List ℤ) (j : ℕ) → pos 1 ≤ℤ g → ((i : ℕ) → Divides g (entry f i))
+    → g *ℤ entry (divided g f) j ≡ entry f j
 entry_divided g [] j above each_one = omega (arith, ints)
 entry_divided g (x ∷ f) zero above each_one = exact g x above (each_one 0)
 entry_divided g (x ∷ f) (suc j) above each_one = entry_divided g f j above (λ i. each_one (suc i))
@@ -73,7 +74,8 @@ pub first_gcd_above : (a b : ℤ) → pos 1 ≤ℤ a → pos 1 ≤ℤ gcd a b
 first_gcd_above a b above = divisor_above (gcd a b) a (omega (arith, ints)) (gcd_first a b) above
 
 -- q is a place where the line stays above 0
-pub cleared_is : (e q : ℕ) (h f : List ℤ) → pos 1 ≤ℤ entry h e → pos 1 ≤ℤ entry f q → entry h q ≡ pos 0 → IsCleared e (entry f) (entry h) (entry (cleared e h f))
+pub cleared_is : (e q : ℕ) (h f : List ℤ) → pos 1 ≤ℤ entry h e → pos 1 ≤ℤ entry f q → entry h q ≡ pos 0
+    → IsCleared e (entry f) (entry h) (entry (cleared e h f))
 cleared_is e q h f above here none =
     let g = gcd (entry h e) (entry f e) in
     let a = int_div_euclid (entry h e) g in
@@ -110,17 +112,20 @@ exchanged_count r e h [] = refl
 exchanged_count zero e h (k ∷ ks) = ap suc (replaced_count e h ks)
 exchanged_count (suc r) e h (k ∷ ks) = ap suc (exchanged_count r e h ks)
 
-replaced_at : (e : ℕ) (h : List ℤ) (ks : List Held) (i : ℕ) → i < length ks → held_at (replaced e h ks) i ≡ freed e h (held_at ks i)
+replaced_at : (e : ℕ) (h : List ℤ) (ks : List Held) (i : ℕ) → i < length ks
+    → held_at (replaced e h ks) i ≡ freed e h (held_at ks i)
 replaced_at e h [] i below = absurd (omega arith)
 replaced_at e h (k ∷ ks) zero below = refl
 replaced_at e h (k ∷ ks) (suc i) below = replaced_at e h ks i (omega arith)
 
-pub exchanged_there : (r e : ℕ) (h : List ℤ) (ks : List Held) → r < length ks → held_at (exchanged r e h ks) r ≡ record { basic = e; line = h }
+pub exchanged_there : (r e : ℕ) (h : List ℤ) (ks : List Held) → r < length ks
+    → held_at (exchanged r e h ks) r ≡ record { basic = e; line = h }
 exchanged_there r e h [] below = absurd (omega arith)
 exchanged_there zero e h (k ∷ ks) below = refl
 exchanged_there (suc r) e h (k ∷ ks) below = exchanged_there r e h ks (omega arith)
 
-pub exchanged_other : (r e : ℕ) (h : List ℤ) (ks : List Held) (i : ℕ) → i < length ks → (i ≡ r → ⊥) → held_at (exchanged r e h ks) i ≡ freed e h (held_at ks i)
+pub exchanged_other : (r e : ℕ) (h : List ℤ) (ks : List Held) (i : ℕ) → i < length ks → (i ≡ r → ⊥)
+    → held_at (exchanged r e h ks) i ≡ freed e h (held_at ks i)
 exchanged_other r e h [] i below d = absurd (omega arith)
 exchanged_other zero e h (k ∷ ks) zero below d = absurd (d refl)
 exchanged_other zero e h (k ∷ ks) (suc i) below d = replaced_at e h ks i (omega arith)
@@ -128,7 +133,8 @@ exchanged_other (suc r) e h (k ∷ ks) zero below d = refl
 exchanged_other (suc r) e h (k ∷ ks) (suc i) below d = exchanged_other r e h ks i (omega arith) (λ (q : i ≡ r). d (ap suc q))
 
 -- the rule's step is a pivot
-pub pivoted_is : (gs : List Generator) (w : ℕ) (t : Tableau) (r e : ℕ) (u : ℤ) → IsSound gs w t → r < length t.rows → u *ℤ u ≡ pos 1
+pub pivoted_is : (gs : List Generator) (w : ℕ) (t : Tableau) (r e : ℕ) (u : ℤ) → IsSound gs w t → r < length t.rows
+    → u *ℤ u ≡ pos 1
     → pos 1 ≤ℤ (u *ℤ number_at t r e) → IsPivot t (pivoted u r e t) r e u
 pivoted_is gs w t r e u s below unit above =
     let h = times_line u (held_at t.rows r).line in

@@ -18,7 +18,8 @@ use Rattle.dual_check.specs.Openings.{openings_of, costs_of, system_from, system
 
 -- ---- constraints
 
-map_flat : {A B C : Type 0} (f : B → C) (g : A → List B) (h : A → List C) (xs : List A) → ((x : A) → map f (g x) ≡ h x) → map f (flat_map g xs) ≡ flat_map h xs
+map_flat : {A B C : Type 0} (f : B → C) (g : A → List B) (h : A → List C) (xs : List A) → ((x : A) → map f (g x) ≡ h x)
+    → map f (flat_map g xs) ≡ flat_map h xs
 map_flat f g h [] same = refl
 map_flat f g h (x ∷ xs) same = map-append f (g x) (flat_map g xs) ∙ ap (λ ys. ys ++ map f (flat_map g xs)) (same x) ∙ ap (λ ys. h x ++ ys) (map_flat f g h xs same)
 
@@ -72,7 +73,8 @@ module _ (o : Shape) where
   counts_weigh (Pair s a b) = refl
   counts_weigh (Alarm n why) = refl
 
-  joined : (a b : List Constraint) (u v : List Weighing) → map (weighing_of o) a ≡ u → map (weighing_of o) b ≡ v → map (weighing_of o) (a ++ b) ≡ u ++ v
+  joined : (a b : List Constraint) (u v : List Weighing) → map (weighing_of o) a ≡ u → map (weighing_of o) b ≡ v
+      → map (weighing_of o) (a ++ b) ≡ u ++ v
   joined a b u v p q = map-append (weighing_of o) a b ∙ ap (λ ys. ys ++ map (weighing_of o) b) p ∙ ap (λ ys. u ++ ys) q
 
   -- the constraints weigh what the rows weigh
@@ -90,7 +92,8 @@ module _ (o : Shape) where
 same_rows : (o : Shape) (columns : List Column) (facts : List Fact) → map (λ k. row_of columns (weighing_of o k)) (constraints_of o facts) ≡ map (λ w. row_of columns w) (weighings o facts)
 same_rows o columns facts = sym (map_twice (λ w. row_of columns w) (weighing_of o) (constraints_of o facts)) ∙ ap (λ ws. map (λ w. row_of columns w) ws) (weighings_made o facts)
 
-pub system_same : (o : Outlined) (facts : List Fact) → system_from o (columns_of (shape_of o) facts) (constraints_of (shape_of o) facts) ≡ system_of o facts
+pub system_same : (o : Outlined) (facts : List Fact)
+    → system_from o (columns_of (shape_of o) facts) (constraints_of (shape_of o) facts) ≡ system_of o facts
 system_same o facts =
     ap (λ rows. let s : System = record {
       program = record { costs = map (λ c. cost_of (costs_of o) c) (columns_of (shape_of o) facts); rows = rows };

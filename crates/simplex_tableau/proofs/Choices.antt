@@ -28,7 +28,8 @@ with_idle : (row d : List ℤ) (j : ℕ) (o : Option ℕ) → int_lt (entry row 
 with_idle row d j None none = rw none refl
 with_idle row d j (Some b) none = rw none refl
 
-wide_idle : (row d : List ℤ) (j : ℕ) (o : Option ℕ) → int_lt (entry row j) (pos 0) ≡ false → choice_wide row d j o ≡ false
+wide_idle : (row d : List ℤ) (j : ℕ) (o : Option ℕ) → int_lt (entry row j) (pos 0) ≡ false
+    → choice_wide row d j o ≡ false
 wide_idle row d j None none = refl
 wide_idle row d j (Some b) none = rw none refl
 
@@ -41,7 +42,8 @@ record IsSame (row d : List ℤ) (m n : ℕ) : Type 0 where
   place : entering row d m ≡ entering row d n
   wide : entering_wide row d m ≡ entering_wide row d n
 
-idle : (row d : List ℤ) (m n : ℕ) → n ≤ m → ((j : ℕ) → suc (suc n) ≤ j → j < suc (suc m) → int_lt (entry row j) (pos 0) ≡ false) → IsSame row d m n
+idle : (row d : List ℤ) (m n : ℕ) → n ≤ m
+    → ((j : ℕ) → suc (suc n) ≤ j → j < suc (suc m) → int_lt (entry row j) (pos 0) ≡ false) → IsSame row d m n
 idle row d zero n most none = let q : n ≡ 0 = omega arith in rw q (record { place = refl; wide = refl })
 idle row d (suc m) n most none = ⊎_elim
     (λ (q : n ≡ suc m). rw q (record { place = refl; wide = refl }))
@@ -64,15 +66,18 @@ stays_wide row d (suc m) n most wide = ⊎_elim
 
 -- ---- a place whose number is below 0
 
-with_low : (row d : List ℤ) (p b : ℕ) (x y bx bd : ℤ) → entry row p ≡ x → entry d p ≡ y → entry row b ≡ bx → entry d b ≡ bd → int_lt x (pos 0) ≡ true
+with_low : (row d : List ℤ) (p b : ℕ) (x y bx bd : ℤ) → entry row p ≡ x → entry d p ≡ y → entry row b ≡ bx
+    → entry d b ≡ bd → int_lt x (pos 0) ≡ true
     → entering_with row d p (Some b) ≡ (if int_lt (y *ℤ neg_ℤ bx) (bd *ℤ neg_ℤ x) then Some p else Some b)
 with_low row d p b x y bx bd e1 e2 e3 e4 low = rw (e1, e2, e3, e4, low) refl
 
-wide_low : (row d : List ℤ) (p b : ℕ) (x y bx bd : ℤ) → entry row p ≡ x → entry d p ≡ y → entry row b ≡ bx → entry d b ≡ bd → int_lt x (pos 0) ≡ true
+wide_low : (row d : List ℤ) (p b : ℕ) (x y bx bd : ℤ) → entry row p ≡ x → entry d p ≡ y → entry row b ≡ bx
+    → entry d b ≡ bd → int_lt x (pos 0) ≡ true
     → choice_wide row d p (Some b) ≡ not (fits (y *ℤ neg_ℤ bx) && fits (bd *ℤ neg_ℤ x))
 wide_low row d p b x y bx bd e1 e2 e3 e4 low = rw (e1, e2, e3, e4, low) refl
 
-with_first : (row d : List ℤ) (p : ℕ) (x : ℤ) → entry row p ≡ x → int_lt x (pos 0) ≡ true → entering_with row d p None ≡ Some p
+with_first : (row d : List ℤ) (p : ℕ) (x : ℤ) → entry row p ≡ x → int_lt x (pos 0) ≡ true
+    → entering_with row d p None ≡ Some p
 with_first row d p x e low = rw (e, low) refl
 
 -- ---- what was chosen so far
@@ -85,7 +90,8 @@ agreed : (row d : List ℤ) (o : Option ℕ) (best : Option Chosen) → Agrees r
 agreed row d o None agrees = agrees
 agreed row d o (Some c) agrees = agrees.0
 
-agrees_with : (row d : List ℤ) (o o' : Option ℕ) (best : Option Chosen) → o' ≡ o → Agrees row d o best → Agrees row d o' best
+agrees_with : (row d : List ℤ) (o o' : Option ℕ) (best : Option Chosen) → o' ≡ o → Agrees row d o best
+    → Agrees row d o' best
 agrees_with row d o o' None same agrees = same ∙ agrees
 agrees_with row d o o' (Some c) same agrees = (same ∙ agrees.0, agrees.1, agrees.2)
 
@@ -99,7 +105,8 @@ data IsNext (row d : List ℤ) (n : ℕ) : Option (Option Chosen) → Type 0 whe
   too_wide : entering_wide row d n ≡ true → IsNext row d n None
   goes : (best : Option Chosen) → IsAt row d n best → IsNext row d n (Some best)
 
-among_held : (row d : List ℤ) (m p : ℕ) (held c : Chosen) → suc (suc m) ≡ p → c.place ≡ p → entry row p ≡ c.low → entry d p ≡ c.cost → int_lt c.low (pos 0) ≡ true
+among_held : (row d : List ℤ) (m p : ℕ) (held c : Chosen) → suc (suc m) ≡ p → c.place ≡ p → entry row p ≡ c.low
+    → entry d p ≡ c.cost → int_lt c.low (pos 0) ≡ true
     → IsAt row d m (Some held) → IsNext row d (suc m) (lesser held c)
 among_held row d m p held c p_is place low cost negative at_ =
     let o_is : entering row d m ≡ Some held.place = at_.agrees.0 in
@@ -125,7 +132,8 @@ among_held row d m p held c p_is place low cost negative at_ =
     (λ (wide : (fits mine && fits other) ≡ false).
     rw wide (too_wide (or_right (entering_wide row d m) (choice_wide row d (suc (suc m)) (entering row d m)) (test ∙ ap not wide))))
 
-among : (row d : List ℤ) (m p : ℕ) (best : Option Chosen) (c : Chosen) → suc (suc m) ≡ p → c.place ≡ p → entry row p ≡ c.low → entry d p ≡ c.cost
+among : (row d : List ℤ) (m p : ℕ) (best : Option Chosen) (c : Chosen) → suc (suc m) ≡ p → c.place ≡ p
+    → entry row p ≡ c.low → entry d p ≡ c.cost
     → int_lt c.low (pos 0) ≡ true
     → IsAt row d m best → IsNext row d (suc m) (chosen_among best c)
 among row d m p None c p_is place low cost negative at_ =
@@ -139,7 +147,8 @@ among row d m p None c p_is place low cost negative at_ =
     })
 among row d m p (Some held) c p_is place low cost negative at_ = among_held row d m p held c p_is place low cost negative at_
 
-one_place : (row d : List ℤ) (m p : ℕ) (best : Option Chosen) (c : Chosen) → suc (suc m) ≡ p → c.place ≡ p → entry row p ≡ c.low → entry d p ≡ c.cost
+one_place : (row d : List ℤ) (m p : ℕ) (best : Option Chosen) (c : Chosen) → suc (suc m) ≡ p → c.place ≡ p
+    → entry row p ≡ c.low → entry d p ≡ c.cost
     → IsAt row d m best → IsNext row d (suc m) (chosen_with best c)
 one_place row d m p best c p_is place low cost at_ = by_test (int_lt c.low (pos 0))
     (λ (negative : int_lt c.low (pos 0) ≡ true). rw negative (among row d m p best c p_is place low cost negative at_))
@@ -155,7 +164,8 @@ one_place row d m p best c p_is place low cost at_ = by_test (int_lt c.low (pos 
 nothing_low : (z : ℤ) → z ≡ pos 0 → int_lt z (pos 0) ≡ false
 nothing_low z none = rw none refl
 
-answer_narrow : (row d : List ℤ) (n : ℕ) (best : Option Chosen) → IsAt row d n best → Some (place_in best) ≡ entering_answer row d n
+answer_narrow : (row d : List ℤ) (n : ℕ) (best : Option Chosen) → IsAt row d n best
+    → Some (place_in best) ≡ entering_answer row d n
 answer_narrow row d n best at_ = rw at_.narrow (ap (λ (o : Option ℕ). Some o) (sym (agreed row d (entering row d n) best at_.agrees)))
 
 answer_wide : (row d : List ℤ) (n : ℕ) → entering_wide row d n ≡ true → None ≡ entering_answer row d n
@@ -175,7 +185,8 @@ go_on : (row d : List ℤ) (m most : ℕ) (o : Option (Option Chosen)) (ts ds : 
 go_on row d m most None ts ds less later (too_wide wide) = answer_wide row d most (stays_wide row d most m less wide)
 go_on row d m most (Some best) ts ds less later (goes same at_) = later best at_
 
-all_terms : (row d : List ℤ) (n most : ℕ) (best : Option Chosen) (ts ds : List (ℕ × ℤ)) → n ≤ most → AreLeft n most row d ts ds → IsAt row d n best
+all_terms : (row d : List ℤ) (n most : ℕ) (best : Option Chosen) (ts ds : List (ℕ × ℤ)) → n ≤ most
+    → AreLeft n most row d ts ds → IsAt row d n best
     → place_chosen (choose best ts ds) ≡ entering_answer row d most
 all_terms row d n most best [] ds less left at_ =
     let same = idle row d most n less (λ j least below. nothing_low (entry row j) (sym (left.same j least))) in

@@ -58,7 +58,8 @@ same_divisor a b above least m n =
     omega (arith, ints, one, two)
 
 -- the divisor of the terms, started from one of their numbers, is that of the whole line
-pub gcd_is_line : (w : ℕ) (first : ℤ) (own : ℕ) (ts : List (ℕ × ℤ)) → IsWithin w ts → IsAscending ts → first ≡ coefficient ts own → pos 1 ≤ℤ first
+pub gcd_is_line : (w : ℕ) (first : ℤ) (own : ℕ) (ts : List (ℕ × ℤ)) → IsWithin w ts → IsAscending ts
+    → first ≡ coefficient ts own → pos 1 ≤ℤ first
     → gcd_from first ts ≡ line_gcd (spread w 0 ts)
 gcd_is_line w first own ts within rises is above =
     let f = spread w 0 ts in

@@ -12,7 +12,8 @@ use Rattle.simplex_tableau.specs.Stepped.{IsStepped, IsStepWide, IsSomeWide}
 two_heads : (x y : Held) (f h : List Held) → x ≡ y → f ≡ h → x ∷ f ≡ y ∷ h
 two_heads x y f h one rest = ap (λ (z : Held). z ∷ f) one ∙ ap (λ (l : List Held). y ∷ l) rest
 
-held_same : (b c : ℕ) (f h : List ℤ) → b ≡ c → f ≡ h → ◌≡◌ {A = Held} (record { basic = b; line = f }) (record { basic = c; line = h })
+held_same : (b c : ℕ) (f h : List ℤ) → b ≡ c → f ≡ h
+    → ◌≡◌ {A = Held} (record { basic = b; line = f }) (record { basic = c; line = h })
 held_same b c f h one two = ap (λ (z : ℕ). let x : Held = record { basic = z; line = f } in x) one ∙ ap (λ (l : List ℤ). let x : Held = record { basic = c; line = l } in x) two
 
 module _ (w e : ℕ) (h : List (ℕ × ℤ)) (within : IsWithin w h) where
@@ -82,7 +83,8 @@ module _ (w e : ℕ) (h : List (ℕ × ℤ)) (within : IsWithin w h) where
       or_right (cleared_wide e (spread w 0 h) (spread w 0 o.terms)) (list_any (λ (k : Held). cleared_wide e (spread w 0 h) k.line) (shown_rows w os))
       (replaced_wide k os (λ k less. kept (suc k) (omega arith)) (omega arith) wide)
 
-  rows_wide_at : (r k : ℕ) (old : List HeldTerms) → AreKept w old → k < length old → (k ≡ r → ⊥) → IsStepWide e h (terms_at old k)
+  rows_wide_at : (r k : ℕ) (old : List HeldTerms) → AreKept w old → k < length old → (k ≡ r → ⊥)
+      → IsStepWide e h (terms_at old k)
       → rows_wide r e (spread w 0 h) (shown_rows w old) ≡ true
   rows_wide_at r k [] kept below other wide = absurd (omega arith)
   rows_wide_at zero zero (o ∷ os) kept below other wide = absurd (other refl)
@@ -93,5 +95,6 @@ module _ (w e : ℕ) (h : List (ℕ × ℤ)) (within : IsWithin w h) where
       or_right (cleared_wide e (spread w 0 h) (spread w 0 o.terms)) (rows_wide r e (spread w 0 h) (shown_rows w os))
       (rows_wide_at r k os (λ k less. kept (suc k) (omega arith)) (omega arith) (λ (q : k ≡ r). other (ap suc q)) wide)
 
-  pub some_row_wide : (r : ℕ) (old : List HeldTerms) → AreKept w old → IsSomeWide e h r old → rows_wide r e (spread w 0 h) (shown_rows w old) ≡ true
+  pub some_row_wide : (r : ℕ) (old : List HeldTerms) → AreKept w old → IsSomeWide e h r old
+      → rows_wide r e (spread w 0 h) (shown_rows w old) ≡ true
   some_row_wide r old kept some = rows_wide_at r some.row old kept some.below some.other some.wide

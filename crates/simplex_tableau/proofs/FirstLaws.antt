@@ -38,11 +38,13 @@ term_or_none k z j = by_test (vanishes z)
     (λ (v : vanishes z ≡ true). rw v (let e : coefficient_of (k, z) j ≡ pos 0 = ap (λ (x : ℤ). coefficient_of (k, x) j) (vanish_is z v) ∙ nothing_there k j in sym e))
     (λ (v : vanishes z ≡ false). rw v (omega (arith, ints)))
 
-spread_same : (n j : ℕ) (f g : List (ℕ × ℤ)) → ((i : ℕ) → coefficient f i ≡ coefficient g i) → spread n j f ≡ spread n j g
+spread_same : (n j : ℕ) (f g : List (ℕ × ℤ)) → ((i : ℕ) → coefficient f i ≡ coefficient g i)
+    → spread n j f ≡ spread n j g
 spread_same zero j f g same = refl
 spread_same (suc n) j f g same = ap (λ (x : ℤ). x ∷ spread n (suc j) f) (same j) ∙ ap (λ (l : List ℤ). coefficient g j ∷ l) (spread_same n (suc j) f g same)
 
-first_number : (right : ℤ) (ts : List (ℕ × ℤ)) (s j : ℕ) → coefficient (first_terms right ts s) j ≡ coefficient (slack_line right ts s).1 j
+first_number : (right : ℤ) (ts : List (ℕ × ℤ)) (s j : ℕ)
+    → coefficient (first_terms right ts s) j ≡ coefficient (slack_line right ts s).1 j
 first_number right ts s j =
     omega (arith, ints, joined (term_if 0 right) (placed ts ++ ((s, pos 1) ∷ [])) j, term_or_none 0 right j, joined (placed ts) ((s, pos 1) ∷ []) j)
 
@@ -61,7 +63,8 @@ slack_shown : (w : ℕ) (right : ℤ) (ts : List (ℕ × ℤ)) (s : ℕ)
 slack_shown w right ts s =
     ap (λ (l : List ℤ). let h : Held = record { basic = s; line = l } in h) (spread_same w 0 (first_terms right ts s) (slack_line right ts s).1 (first_number right ts s))
 
-row_shown : (w : ℕ) (b : Bool) (r : Row) (s : ℕ) (more : List HeldTerms) (rest : List Generator) → shown_rows w more ≡ held_of w rest
+row_shown : (w : ℕ) (b : Bool) (r : Row) (s : ℕ) (more : List HeldTerms) (rest : List Generator)
+    → shown_rows w more ≡ held_of w rest
     → shown_rows w (row_held b r s ++ more) ≡ held_of w (row_lines b r s rest)
 row_shown w true r s more rest same =
     two_heads (record { basic = s; line = spread w 0 (first_terms r.right r.terms s) }) (record { basic = s; line = spread w 0 (slack_line r.right r.terms s).1 })
@@ -90,11 +93,13 @@ within_joined w (x ∷ xs) ys one two = (one.0, within_joined w xs ys one.1 two)
 within_term : (w k : ℕ) (z : ℤ) → k < w → IsWithin w (term_if k z)
 within_term w k z below = by_test (vanishes z) (λ v. rw v tt) (λ v. rw v (below, tt))
 
-starts_placed : (c s : ℕ) (ts : List (ℕ × ℤ)) → StartsAbove c ts → suc (suc c) < s → StartsAbove (suc (suc c)) (placed ts ++ ((s, pos 1) ∷ []))
+starts_placed : (c s : ℕ) (ts : List (ℕ × ℤ)) → StartsAbove c ts → suc (suc c) < s
+    → StartsAbove (suc (suc c)) (placed ts ++ ((s, pos 1) ∷ []))
 starts_placed c s [] above less = less
 starts_placed c s (t ∷ ts) above less = omega (arith, above)
 
-placed_rise : (n s : ℕ) (ts : List (ℕ × ℤ)) → IsWithin n ts → n + 2 ≤ s → IsAscending ts → IsAscending (placed ts ++ ((s, pos 1) ∷ []))
+placed_rise : (n s : ℕ) (ts : List (ℕ × ℤ)) → IsWithin n ts → n + 2 ≤ s → IsAscending ts
+    → IsAscending (placed ts ++ ((s, pos 1) ∷ []))
 placed_rise n s [] within room rises = (tt, tt)
 placed_rise n s (t ∷ ts) within room rises = (starts_placed t.0 s ts rises.0 (omega (arith, within.0)), placed_rise n s ts within.1 room rises.1)
 
@@ -102,12 +107,14 @@ starts_first : (s : ℕ) (ts : List (ℕ × ℤ)) → 2 ≤ s → StartsAbove 0 
 starts_first s [] least = omega arith
 starts_first s (t ∷ ts) least = omega arith
 
-pub first_rises : (n : ℕ) (right : ℤ) (ts : List (ℕ × ℤ)) (s : ℕ) → IsWithin n ts → n + 2 ≤ s → IsAscending ts → IsAscending (first_terms right ts s)
+pub first_rises : (n : ℕ) (right : ℤ) (ts : List (ℕ × ℤ)) (s : ℕ) → IsWithin n ts → n + 2 ≤ s → IsAscending ts
+    → IsAscending (first_terms right ts s)
 first_rises n right ts s within room rises = by_test (vanishes right)
     (λ v. rw v (placed_rise n s ts within room rises))
     (λ v. rw v (starts_first s ts (omega (arith, room)), placed_rise n s ts within room rises))
 
-first_within : (w n : ℕ) (right : ℤ) (ts : List (ℕ × ℤ)) (s : ℕ) → IsWithin n ts → n + 2 ≤ s → s < w → IsWithin w (first_terms right ts s)
+first_within : (w n : ℕ) (right : ℤ) (ts : List (ℕ × ℤ)) (s : ℕ) → IsWithin n ts → n + 2 ≤ s → s < w
+    → IsWithin w (first_terms right ts s)
 first_within w n right ts s within room below =
     within_joined w (term_if 0 right) (placed ts ++ ((s, pos 1) ∷ [])) (within_term w 0 right (omega (arith, below)))
     (within_joined w (placed ts) ((s, pos 1) ∷ []) (placed_within n w ts within (omega (arith, room, below))) (below, tt))
@@ -128,14 +135,16 @@ with_one w j ts within one = record {
       (subst (λ (z : ℤ). Divides (line_gcd (spread w 0 ts)) z) (spread_is w ts j within ∙ one) (line_gcd_divides (spread w 0 ts) j));
 }
 
-own_slack : (n : ℕ) (right : ℤ) (ts : List (ℕ × ℤ)) (s : ℕ) → IsWithin n ts → n + 2 ≤ s → coefficient (first_terms right ts s) s ≡ pos 1
+own_slack : (n : ℕ) (right : ℤ) (ts : List (ℕ × ℤ)) (s : ℕ) → IsWithin n ts → n + 2 ≤ s
+    → coefficient (first_terms right ts s) s ≡ pos 1
 own_slack n right ts s within room =
     let first : coefficient_of (0, right) s ≡ pos 0 = term_elsewhere 0 s right (λ (e : 0 ≡ s). absurd (omega (arith, room))) in
     let none : coefficient (placed ts) s ≡ pos 0 = beyond s (placed ts) s (placed_within n s ts within room) (omega arith) in
     let own : coefficient_of (s, pos 1) s ≡ pos 1 = term_here s s (pos 1) refl in
     omega (arith, ints, joined (term_if 0 right) (placed ts ++ ((s, pos 1) ∷ [])) s, term_or_none 0 right s, joined (placed ts) ((s, pos 1) ∷ []) s, first, none, own)
 
-slack_kept : (w n : ℕ) (right : ℤ) (ts : List (ℕ × ℤ)) (s : ℕ) → IsWithin n ts → n + 2 ≤ s → s < w → IsKept w (first_terms right ts s)
+slack_kept : (w n : ℕ) (right : ℤ) (ts : List (ℕ × ℤ)) (s : ℕ) → IsWithin n ts → n + 2 ≤ s → s < w
+    → IsKept w (first_terms right ts s)
 slack_kept w n right ts s within room below = with_one w s (first_terms right ts s) (first_within w n right ts s within room below) (own_slack n right ts s within room)
 
 EachKept : ℕ → List HeldTerms → Type 0
@@ -148,7 +157,8 @@ each_at w [] each_one k below = absurd (omega arith)
 each_at w (h ∷ hs) each_one zero below = each_one.0
 each_at w (h ∷ hs) each_one (suc k) below = each_at w hs each_one.1 k (omega arith)
 
-row_kept : (w n : ℕ) (b : Bool) (r : Row) (s : ℕ) (more : List HeldTerms) → IsWithin n r.terms → n + 2 ≤ s → next_slack b s ≤ w → EachKept w more
+row_kept : (w n : ℕ) (b : Bool) (r : Row) (s : ℕ) (more : List HeldTerms) → IsWithin n r.terms → n + 2 ≤ s
+    → next_slack b s ≤ w → EachKept w more
     → EachKept w (row_held b r s ++ more)
 unfolding EachKept
 row_kept w n true r s more within room below rest = (
@@ -161,7 +171,8 @@ next_most : (b : Bool) (s : ℕ) → s ≤ next_slack b s
 next_most true s = omega arith
 next_most false s = omega arith
 
-rows_kept : (w n : ℕ) (rs : List Row) (s : ℕ) → ((k : ℕ) → IsWithin n (row_at rs k).terms) → n + 2 ≤ s → width_from rs s ≤ w → EachKept w (first_rows rs s)
+rows_kept : (w n : ℕ) (rs : List Row) (s : ℕ) → ((k : ℕ) → IsWithin n (row_at rs k).terms) → n + 2 ≤ s
+    → width_from rs s ≤ w → EachKept w (first_rows rs s)
 unfolding EachKept
 rows_kept w n [] s within room most = tt
 rows_kept w n (r ∷ rs) s within room most =
@@ -202,7 +213,8 @@ cost_low (c ∷ cs) j i less =
 
 -- ---- the whole
 
-rows_are_kept : (w : ℕ) (p : Program) → ((k : ℕ) → IsWithin (length p.costs) (row_at p.rows k).terms) → w ≡ width_of p → AreKept w (first_rows p.rows (slacks_from p))
+rows_are_kept : (w : ℕ) (p : Program) → ((k : ℕ) → IsWithin (length p.costs) (row_at p.rows k).terms) → w ≡ width_of p
+    → AreKept w (first_rows p.rows (slacks_from p))
 rows_are_kept w p within width = each_at w (first_rows p.rows (slacks_from p)) (rows_kept w (length p.costs) p.rows (slacks_from p) within (omega arith) (omega (arith, width)))
 
 costs_are_kept : (w : ℕ) (p : Program) → w ≡ width_of p → IsKept w (first_costs p.costs)
@@ -214,7 +226,8 @@ costs_are_kept w p width =
 objective_number : (cs : List ℕ) (i : ℕ) → coefficient (first_costs cs) i ≡ coefficient (objective_line cs).1 i
 objective_number cs i = omega (arith, ints, cost_number cs 2 i)
 
-first_made : (w : ℕ) (p : Program) → w ≡ width_of p → IsFirst p (seen w (first_rows p.rows (slacks_from p)) (first_costs p.costs))
+first_made : (w : ℕ) (p : Program) → w ≡ width_of p
+    → IsFirst p (seen w (first_rows p.rows (slacks_from p)) (first_costs p.costs))
 first_made w p width =
     let rows : shown_rows w (first_rows p.rows (slacks_from p)) ≡ held_of (width_of p) (generators p.rows (slacks_from p)) =
     rows_shown w p.rows (slacks_from p) ∙ ap (λ (n : ℕ). held_of n (generators p.rows (slacks_from p))) width in
@@ -226,14 +239,17 @@ first_made w p width =
           ∙ ap (λ (x : List ℤ). let t : Tableau = record { rows = held_of (width_of p) (generators p.rows (slacks_from p)); objective = x } in t) objective;
     }
 
-pub first_kept : (w : ℕ) (p : Program) (lines : List HeldTerms) → ((k : ℕ) → IsWithin (length p.costs) (row_at p.rows k).terms) → w ≡ width_of p
+pub first_kept : (w : ℕ) (p : Program) (lines : List HeldTerms)
+    → ((k : ℕ) → IsWithin (length p.costs) (row_at p.rows k).terms) → w ≡ width_of p
     → lines ≡ first_rows p.rows (slacks_from p) → AreKept w lines
 first_kept w p lines within width are = subst (λ (l : List HeldTerms). AreKept w l) (sym are) (rows_are_kept w p within width)
 
-pub costs_kept : (w : ℕ) (p : Program) (costs : List (ℕ × ℤ)) → w ≡ width_of p → costs ≡ first_costs p.costs → IsKept w costs
+pub costs_kept : (w : ℕ) (p : Program) (costs : List (ℕ × ℤ)) → w ≡ width_of p → costs ≡ first_costs p.costs
+    → IsKept w costs
 costs_kept w p costs width are = subst (λ (l : List (ℕ × ℤ)). IsKept w l) (sym are) (costs_are_kept w p width)
 
-pub first_is : (w : ℕ) (p : Program) (lines : List HeldTerms) (costs : List (ℕ × ℤ)) → w ≡ width_of p → lines ≡ first_rows p.rows (slacks_from p)
+pub first_is : (w : ℕ) (p : Program) (lines : List HeldTerms) (costs : List (ℕ × ℤ)) → w ≡ width_of p
+    → lines ≡ first_rows p.rows (slacks_from p)
     → costs ≡ first_costs p.costs
     → IsFirst p (seen w lines costs)
 first_is w p lines costs width are objective =
@@ -255,12 +271,14 @@ small_terms (t ∷ ts) rises small =
           (cases_eq t.0 e)),
     )
 
-pub slack_rises : (right : ℤ) (ts : List (ℕ × ℤ)) (s : ℕ) → 2 ≤ s → IsWithin (s - 2) ts → IsAscending ts → IsAscending (first_terms right ts s)
+pub slack_rises : (right : ℤ) (ts : List (ℕ × ℤ)) (s : ℕ) → 2 ≤ s → IsWithin (s - 2) ts → IsAscending ts
+    → IsAscending (first_terms right ts s)
 slack_rises right ts s least within rises = first_rises (s - 2) right ts s within (omega arith) rises
 
 pub slack_room : (s : ℕ) (ts : List (ℕ × ℤ)) → s < 4294967296 → IsWithin (s - 2) ts → IsWithin 4294967294 ts
 slack_room s ts most within = within_more (s - 2) 4294967294 ts within (omega arith)
 
-pub terms_room : (p : Program) (k s : ℕ) → ((k : ℕ) → IsWithin (length p.costs) (row_at p.rows k).terms) → length p.costs + 2 ≤ s
+pub terms_room : (p : Program) (k s : ℕ) → ((k : ℕ) → IsWithin (length p.costs) (row_at p.rows k).terms)
+    → length p.costs + 2 ≤ s
     → IsWithin (s - 2) (row_at p.rows k).terms
 terms_room p k s within room = within_more (length p.costs) (s - 2) (row_at p.rows k).terms (within k) (omega arith)

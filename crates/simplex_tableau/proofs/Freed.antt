@@ -45,7 +45,8 @@ factor_above p q above =
     cancel_above (gcd p q) (int_div_euclid p (gcd p q)) g_above (rw a_is above)
 
 -- the mixture has a number above 0 where the line has one and the row none
-pub mixture_above : (e own : ℕ) (a b : ℤ) (h f line : List (ℕ × ℤ)) → a ≡ int_div_euclid (coefficient h e) (gcd (coefficient h e) (coefficient f e))
+pub mixture_above : (e own : ℕ) (a b : ℤ) (h f line : List (ℕ × ℤ))
+    → a ≡ int_div_euclid (coefficient h e) (gcd (coefficient h e) (coefficient f e))
     → IsMixture a b f h line
     → pos 0 <ℤ coefficient h e → pos 0 <ℤ coefficient f own → coefficient h own ≡ pos 0 → pos 0 <ℤ coefficient line own
 mixture_above e own a b h f line is m there here none =
@@ -84,7 +85,8 @@ module _ (e own : ℕ) (a b : ℤ) (h f : List (ℕ × ℤ))
   }
 
   -- the mixture, divided by its common divisor, is the definition's line
-  pub freed_is : (first by : ℤ) (line out : List (ℕ × ℤ)) → IsMixture a b f h line → first ≡ coefficient line own → pos 0 <ℤ first → by ≡ gcd_from first line
+  pub freed_is : (first by : ℤ) (line out : List (ℕ × ℤ)) → IsMixture a b f h line → first ≡ coefficient line own
+      → pos 0 <ℤ first → by ≡ gcd_from first line
       → out ≡ divided_terms by line → IsFreed e h f out
   freed_is first by line out m is above by_is made =
       let least : pos 1 ≤ℤ first = omega (arith, ints, above) in

@@ -19,7 +19,8 @@ spread_count (suc n) j ts = ap suc (spread_count n (suc j) ts)
 -- ---- one row
 
 -- a row that has nothing at the place stays as it is
-pub row_stays : (e : ℕ) (h : List (ℕ × ℤ)) (old : HeldTerms) → pos 0 <ℤ coefficient h e → coefficient old.terms e ≡ pos 0 → IsStepped e h old old
+pub row_stays : (e : ℕ) (h : List (ℕ × ℤ)) (old : HeldTerms) → pos 0 <ℤ coefficient h e
+    → coefficient old.terms e ≡ pos 0 → IsStepped e h old old
 row_stays e h old above none = record {
   basic = refl;
   line = λ w kept within. sym (cleared_kept e (spread w 0 h) (spread w 0 old.terms)
@@ -30,7 +31,8 @@ row_stays e h old above none = record {
   kept = λ w kept within. kept;
 }
 
-pub row_freed : (e b : ℕ) (h f out : List (ℕ × ℤ)) → IsFreed e h f out → IsStepped e h (record { basic = b; terms = f }) (record { basic = b; terms = out })
+pub row_freed : (e b : ℕ) (h f out : List (ℕ × ℤ)) → IsFreed e h f out
+    → IsStepped e h (record { basic = b; terms = f }) (record { basic = b; terms = out })
 row_freed e b h f out freed = record {
   basic = refl;
   line = λ w kept within. freed.line w kept.within within;
@@ -44,7 +46,8 @@ row_wide e b h f wide = record { wide = λ w kept within. wide.wide w kept withi
 -- ---- rows
 
 -- the row that leaves is passed over
-pub passed_over : (e : ℕ) (h : List (ℕ × ℤ)) (r n : ℕ) (old now : List HeldTerms) → n ≡ r → IsDone e h r n old now → IsDone e h r (n + 1) old now
+pub passed_over : (e : ℕ) (h : List (ℕ × ℤ)) (r n : ℕ) (old now : List HeldTerms) → n ≡ r → IsDone e h r n old now
+    → IsDone e h r (n + 1) old now
 passed_over e h r n old now same done = record {
   count = done.count;
   stepped = λ k less below other. done.stepped k (⊎_elim (λ (q : k ≡ n). absurd (other (q ∙ same))) (λ (d : k ≡ n → ⊥). omega arith) (cases_eq k n)) below other;
@@ -52,7 +55,8 @@ passed_over e h r n old now same done = record {
 }
 
 -- one more row
-pub one_more : (all : Bool) (e : ℕ) (h : List (ℕ × ℤ)) (r n : ℕ) (old now : List HeldTerms) (new : HeldTerms) → (n ≡ r → ⊥) → n < length now
+pub one_more : (all : Bool) (e : ℕ) (h : List (ℕ × ℤ)) (r n : ℕ) (old now : List HeldTerms) (new : HeldTerms)
+    → (n ≡ r → ⊥) → n < length now
     → IsDone e h r n old now → StepsRow all e h (terms_at now n) new → StepsRows all e h r (n + 1) old (slice_set now n new)
 one_more true e h r n old now new other below done stepped = record {
   count = set_count now n new ∙ done.count;
@@ -72,7 +76,8 @@ one_more false e h r n old now new other below done wide = record {
 }
 
 -- and the line stands in the row
-pub line_stands : (e : ℕ) (h : List (ℕ × ℤ)) (r : ℕ) (old now : List HeldTerms) → r < length old → IsDone e h r (length old) old now
+pub line_stands : (e : ℕ) (h : List (ℕ × ℤ)) (r : ℕ) (old now : List HeldTerms) → r < length old
+    → IsDone e h r (length old) old now
     → IsReplaced e h r old (slice_set now r (record { basic = e; terms = h }))
 line_stands e h r old now below done =
     let new : HeldTerms = record { basic = e; terms = h } in
@@ -94,7 +99,8 @@ dropped_all (x ∷ items) zero count = absurd (omega (arith, count))
 dropped_all (x ∷ items) (suc n) count = dropped_all items n (omega (arith, count))
 
 -- the same of a slice of all rows
-pub stands_in_all : (e : ℕ) (h : List (ℕ × ℤ)) (r : ℕ) (items slice now : List HeldTerms) (n : ℕ) (new : HeldTerms) → slice ≡ items → length items ≡ n → r < length items
+pub stands_in_all : (e : ℕ) (h : List (ℕ × ℤ)) (r : ℕ) (items slice now : List HeldTerms) (n : ℕ) (new : HeldTerms)
+    → slice ≡ items → length items ≡ n → r < length items
     → new ≡ record { basic = e; terms = h } → IsDone e h r (length slice) slice now
     → IsReplaced e h r items (slice_set (take n (now ++ drop (length now) items)) r new)
 stands_in_all e h r items slice now n new same count below is done =

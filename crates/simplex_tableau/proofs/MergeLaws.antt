@@ -47,7 +47,8 @@ after_same p (t ∷ ts) j past = ⊎_elim
     (λ (d : t.0 ≡ p → ⊥). rw (ne_eqb t.0 p d) refl)
     (cases_eq t.0 p)
 
-after_from : (p : ℕ) (ts : List (ℕ × ℤ)) → IsFrom p ts → IsAscending ts → IsFrom (suc p) (after_of ts p) × IsAscending (after_of ts p)
+after_from : (p : ℕ) (ts : List (ℕ × ℤ)) → IsFrom p ts → IsAscending ts
+    → IsFrom (suc p) (after_of ts p) × IsAscending (after_of ts p)
 after_from p [] from rises = (tt, tt)
 after_from p (t ∷ ts) from rises = ⊎_elim
     (λ (e : t.0 ≡ p). rw (eq-eqb t.0 p e) (from_less (suc p) (suc t.0) ts (omega arith) (from_above t.0 ts rises.0), rises.1))
@@ -76,11 +77,13 @@ next_from q (t ∷ ts) (s ∷ ss) p from from' e = by_test (nat_le t.0 s.0)
 
 -- A term after the last.
 
-coefficient_push : (out : List (ℕ × ℤ)) (t : ℕ × ℤ) (j : ℕ) → coefficient (out ++ (t ∷ [])) j ≡ coefficient out j +ℤ coefficient_of t j
+coefficient_push : (out : List (ℕ × ℤ)) (t : ℕ × ℤ) (j : ℕ)
+    → coefficient (out ++ (t ∷ [])) j ≡ coefficient out j +ℤ coefficient_of t j
 coefficient_push [] t j = omega (arith, ints)
 coefficient_push (s ∷ out) t j = omega (arith, ints, coefficient_push out t j)
 
-within_push : (q p : ℕ) (out : List (ℕ × ℤ)) (d : ℤ) → IsWithin q out → q ≤ suc p → IsWithin (suc p) (out ++ ((p, d) ∷ []))
+within_push : (q p : ℕ) (out : List (ℕ × ℤ)) (d : ℤ) → IsWithin q out → q ≤ suc p
+    → IsWithin (suc p) (out ++ ((p, d) ∷ []))
 within_push q p [] d within most = (omega arith, tt)
 within_push q p (s ∷ out) d within most = (omega (arith, within.0), within_push q p out d within.1 most)
 
@@ -88,14 +91,16 @@ starts_push : (c p : ℕ) (out : List (ℕ × ℤ)) (d : ℤ) → StartsAbove c 
 starts_push c p [] d above less = less
 starts_push c p (s ∷ out) d above less = above
 
-rises_push : (q p : ℕ) (out : List (ℕ × ℤ)) (d : ℤ) → IsWithin q out → q ≤ p → IsAscending out → IsAscending (out ++ ((p, d) ∷ []))
+rises_push : (q p : ℕ) (out : List (ℕ × ℤ)) (d : ℤ) → IsWithin q out → q ≤ p → IsAscending out
+    → IsAscending (out ++ ((p, d) ∷ []))
 rises_push q p [] d within most rises = (tt, tt)
 rises_push q p (s ∷ out) d within most rises = (starts_push s.0 p out d rises.0 (omega (arith, within.0)), rises_push q p out d within.1 most rises.1)
 
 term_nothing : (p j : ℕ) → coefficient_of (p, pos 0) j ≡ pos 0
 term_nothing p j = ⊎_elim (λ (e : p ≡ j). term_here p j (pos 0) e) (λ (d : p ≡ j → ⊥). term_elsewhere p j (pos 0) d) (cases_eq p j)
 
-with_is : (out : List (ℕ × ℤ)) (p : ℕ) (d : ℤ) (j : ℕ) → coefficient (with_number out p d) j ≡ coefficient out j +ℤ coefficient_of (p, d) j
+with_is : (out : List (ℕ × ℤ)) (p : ℕ) (d : ℤ) (j : ℕ)
+    → coefficient (with_number out p d) j ≡ coefficient out j +ℤ coefficient_of (p, d) j
 with_is out p d j = by_test (vanishes d)
     (λ (v : vanishes d ≡ true).
     let z : d ≡ pos 0 = vanish_is d v in
@@ -153,7 +158,8 @@ number_wide a b x y e = by_test (narrow a b x y)
     (λ (v : narrow a b x y ≡ false). v)
 
 -- one place merged
-pub merge_goes : (a b : ℤ) (f h out rf rh : List (ℕ × ℤ)) (p : ℕ) (d : ℤ) → IsMerging a b f h out rf rh → next_of rf rh ≡ Some p
+pub merge_goes : (a b : ℤ) (f h out rf rh : List (ℕ × ℤ)) (p : ℕ) (d : ℤ) → IsMerging a b f h out rf rh
+    → next_of rf rh ≡ Some p
     → mixed_number a b (head_number rf p) (head_number rh p) ≡ Some d → IsMerging a b f h (with_number out p d) (after_of rf p) (after_of rh p)
 merge_goes a b f h out rf rh p d i e n =
     let q = i.upto in
@@ -211,7 +217,8 @@ merge_wide a b f h out rf rh p i e n =
     let y : head_number rh p ≡ coefficient h p = head_is p rh least.1 m.second_rises ∙ m.second_rest p more in
     record { place = p; wide = number_wide a b (coefficient f p) (coefficient h p) (rw (x, y) at n) }
 
-both_empty : (rf rh : List (ℕ × ℤ)) (j : ℕ) → next_of rf rh ≡ None → (coefficient rf j ≡ pos 0) × (coefficient rh j ≡ pos 0)
+both_empty : (rf rh : List (ℕ × ℤ)) (j : ℕ) → next_of rf rh ≡ None
+    → (coefficient rf j ≡ pos 0) × (coefficient rh j ≡ pos 0)
 both_empty [] [] j e = (refl, refl)
 both_empty [] (s ∷ ss) j e = absurd cc
 both_empty (t ∷ ts) [] j e = absurd cc
@@ -220,7 +227,8 @@ both_empty (t ∷ ts) (s ∷ ss) j e = by_test (nat_le t.0 s.0)
     (λ (v : nat_le t.0 s.0 ≡ false). let z : next_of (t ∷ ts) (s ∷ ss) ≡ Some s.0 = rw v refl in absurd cc)
 
 -- all is merged
-pub merge_ends : (a b : ℤ) (f h out rf rh : List (ℕ × ℤ)) → IsMerging a b f h out rf rh → next_of rf rh ≡ None → IsMixture a b f h out
+pub merge_ends : (a b : ℤ) (f h out rf rh : List (ℕ × ℤ)) → IsMerging a b f h out rf rh → next_of rf rh ≡ None
+    → IsMixture a b f h out
 merge_ends a b f h out rf rh i e =
     let m = i.merged in
     let gone_f : (j : ℕ) → i.upto ≤ j → coefficient f j ≡ pos 0 = λ j past. sym (m.first_rest j past) ∙ (both_empty rf rh j e).0 in

@@ -66,12 +66,14 @@ term_near c j z near = ⊎_elim
     (λ (d : c ≡ j → ⊥). let none = term_elsewhere c j z d in (omega (arith, ints, none), omega (arith, ints, none)))
     (cases_eq c j)
 
-placed_near : (ts : List (ℕ × ℤ)) (j : ℕ) → ((e : ℕ) → IsUpTo 8589934592 (coefficient ts e)) → IsUpTo 8589934592 (coefficient (placed ts) j)
+placed_near : (ts : List (ℕ × ℤ)) (j : ℕ) → ((e : ℕ) → IsUpTo 8589934592 (coefficient ts e))
+    → IsUpTo 8589934592 (coefficient (placed ts) j)
 placed_near ts zero near = let none = coefficient_placed_low ts 0 (omega arith) in (omega (arith, ints, none), omega (arith, ints, none))
 placed_near ts (suc zero) near = let none = coefficient_placed_low ts 1 (omega arith) in (omega (arith, ints, none), omega (arith, ints, none))
 placed_near ts (suc (suc e)) near = subst (λ (z : ℤ). IsUpTo 8589934592 z) (sym (coefficient_placed ts e)) (near e)
 
-slack_near : (right : ℤ) (ts : List (ℕ × ℤ)) (s j : ℕ) → IsUpTo 8589934592 right → ((e : ℕ) → IsUpTo 8589934592 (coefficient ts e))
+slack_near : (right : ℤ) (ts : List (ℕ × ℤ)) (s j : ℕ) → IsUpTo 8589934592 right
+    → ((e : ℕ) → IsUpTo 8589934592 (coefficient ts e))
     → IsUpTo 34359738368 (coefficient (slack_line right ts s).1 j)
 slack_near right ts s j right_near near =
     let a = term_near 0 j right right_near in
@@ -82,10 +84,12 @@ slack_near right ts s j right_near near =
 neg_near : (z : ℤ) → IsUpTo 8589934592 z → IsUpTo 8589934592 (neg_ℤ z)
 neg_near z near = let low = near.0 in let high = near.1 in (omega (arith, ints, high), omega (arith, ints, low))
 
-turned_near : (ts : List (ℕ × ℤ)) (e : ℕ) → ((e : ℕ) → IsUpTo 8589934592 (coefficient ts e)) → IsUpTo 8589934592 (coefficient (turned ts) e)
+turned_near : (ts : List (ℕ × ℤ)) (e : ℕ) → ((e : ℕ) → IsUpTo 8589934592 (coefficient ts e))
+    → IsUpTo 8589934592 (coefficient (turned ts) e)
 turned_near ts e near = subst (λ (z : ℤ). IsUpTo 8589934592 z) (sym (coefficient_turned ts e)) (neg_near (coefficient ts e) (near e))
 
-row_near : (b : Bool) (r : Row) (s k j : ℕ) (more : List Generator) → IsUpTo 8589934592 r.right → ((e : ℕ) → IsUpTo 8589934592 (coefficient r.terms e))
+row_near : (b : Bool) (r : Row) (s k j : ℕ) (more : List Generator) → IsUpTo 8589934592 r.right
+    → ((e : ℕ) → IsUpTo 8589934592 (coefficient r.terms e))
     → ((i : ℕ) → IsUpTo 34359738368 (coefficient (generator_at more i).1 j)) → IsUpTo 34359738368 (coefficient (generator_at (row_lines b r s more) k).1 j)
 row_near true r s zero j more right near rest = slack_near r.right r.terms s j right near
 row_near true r s (suc zero) j more right near rest = slack_near (neg_ℤ r.right) (turned r.terms) (suc s) j (neg_near r.right right) (λ e. turned_near r.terms e near)
@@ -93,7 +97,8 @@ row_near true r s (suc (suc k)) j more right near rest = rest k
 row_near false r s zero j more right near rest = slack_near r.right r.terms s j right near
 row_near false r s (suc k) j more right near rest = rest k
 
-lines_near : (rs : List Row) (s k j : ℕ) → ((i : ℕ) → IsUpTo 8589934592 (row_at rs i).right) → ((i e : ℕ) → IsUpTo 8589934592 (coefficient (row_at rs i).terms e))
+lines_near : (rs : List Row) (s k j : ℕ) → ((i : ℕ) → IsUpTo 8589934592 (row_at rs i).right)
+    → ((i e : ℕ) → IsUpTo 8589934592 (coefficient (row_at rs i).terms e))
     → IsUpTo 34359738368 (coefficient (generator_at (generators rs s) k).1 j)
 lines_near [] s k j rights numbers = (omega (arith, ints), omega (arith, ints))
 lines_near (r ∷ rs) s k j rights numbers =
@@ -170,12 +175,14 @@ freed_narrow e h f one all =
     and_right (not (vanishes (entry f e))) (mixed_wide a b f h)
     (ap (λ (z : ℤ). mixed_wide z b f h) a_one ∙ ap (λ (z : ℤ). mixed_wide (pos 1) z f h) b_is ∙ mixed_fit (entry f e) f h all)
 
-any_narrow : (e : ℕ) (h : List ℤ) (ks : List Held) → ((k : ℕ) → k < length ks → cleared_wide e h (held_at ks k).line ≡ false)
+any_narrow : (e : ℕ) (h : List ℤ) (ks : List Held)
+    → ((k : ℕ) → k < length ks → cleared_wide e h (held_at ks k).line ≡ false)
     → list_any (λ (k : Held). cleared_wide e h k.line) ks ≡ false
 any_narrow e h [] each_one = refl
 any_narrow e h (k ∷ ks) each_one = or_from (cleared_wide e h k.line) (list_any (λ (k : Held). cleared_wide e h k.line) ks) (each_one 0 (omega arith)) (any_narrow e h ks (λ i below. each_one (suc i) (omega arith)))
 
-others_narrow : (r e : ℕ) (h : List ℤ) (ks : List Held) → ((k : ℕ) → k < length ks → (k ≡ r → ⊥) → cleared_wide e h (held_at ks k).line ≡ false)
+others_narrow : (r e : ℕ) (h : List ℤ) (ks : List Held)
+    → ((k : ℕ) → k < length ks → (k ≡ r → ⊥) → cleared_wide e h (held_at ks k).line ≡ false)
     → rows_wide r e h ks ≡ false
 others_narrow r e h [] each_one = refl
 others_narrow zero e h (k ∷ ks) each_one = any_narrow e h ks (λ i below. each_one (suc i) (omega arith) (λ (q : suc i ≡ 0). absurd (omega arith)))
@@ -205,7 +212,8 @@ module _ (p : Program) (os : List (ℕ × ℕ)) (m : ℕ) (t : Tableau) (small :
   first_near : (k j : ℕ) → IsUpTo 34359738368 (coefficient_at p k j)
   first_near k j = lines_near p.rows (slacks_from p) k j small.rights small.numbers
 
-  freed_near : (g : ℕ → ℤ) (j : ℕ) → ((i : ℕ) → IsUpTo 34359738368 (g i)) → IsUpTo 10141204801825835211973625643008 (freed_of p os g m j)
+  freed_near : (g : ℕ → ℤ) (j : ℕ) → ((i : ℕ) → IsUpTo 34359738368 (g i))
+      → IsUpTo 10141204801825835211973625643008 (freed_of p os g m j)
   freed_near g j near =
       let sum = sums m (λ i. g (opening_at os i).1 *ℤ coefficient_at p (opening_at os i).0 j) (λ i below. product (g (opening_at os i).1) (coefficient_at p (opening_at os i).0 j) (near (opening_at os i).1) (first_near (opening_at os i).0 j)) in
       let here = near j in
@@ -224,7 +232,8 @@ module _ (p : Program) (os : List (ℕ × ℕ)) (m : ℕ) (t : Tableau) (small :
   one_there : entry (held_at t.rows (opening_at os m).0).line (opening_at os m).1 ≡ pos 1
   one_there = plain.rows m low (opening_at os m).1 ∙ o.own m low
 
-  line_narrow : (f : List ℤ) → ((j : ℕ) → IsUpTo 10141204801825835211973625643008 (entry f j)) → IsUpTo 34359738368 (entry f (opening_at os m).1)
+  line_narrow : (f : List ℤ) → ((j : ℕ) → IsUpTo 10141204801825835211973625643008 (entry f j))
+      → IsUpTo 34359738368 (entry f (opening_at os m).1)
       → cleared_wide (opening_at os m).1 (held_at t.rows (opening_at os m).0).line f ≡ false
   line_narrow f near there = freed_narrow (opening_at os m).1 (held_at t.rows (opening_at os m).0).line f one_there (record {
     lines = near;
@@ -235,7 +244,8 @@ module _ (p : Program) (os : List (ℕ × ℕ)) (m : ℕ) (t : Tableau) (small :
   wider : (z : ℤ) → IsUpTo 34359738368 z → IsUpTo 10141204801825835211973625643008 z
   wider z near = let a = near.0 in let b = near.1 in (omega (arith, ints, a), omega (arith, ints, b))
 
-  row_narrow : (k : ℕ) → k < length t.rows → cleared_wide (opening_at os m).1 (held_at t.rows (opening_at os m).0).line (held_at t.rows k).line ≡ false
+  row_narrow : (k : ℕ) → k < length t.rows
+      → cleared_wide (opening_at os m).1 (held_at t.rows (opening_at os m).0).line (held_at t.rows k).line ≡ false
   row_narrow k below = ⊎_elim
       (λ (f : IsOpeningRow os (length os) k).
       let near : (j : ℕ) → IsUpTo 34359738368 (entry (held_at t.rows k).line j) =

@@ -29,7 +29,8 @@ pub line_first : (rs : List Row) → line_place rs 0 ≡ 0
 line_first [] = refl
 line_first (r ∷ rs) = refl
 
-pub line_next : (rs : List Row) (k : ℕ) → k < length rs → line_place rs (suc k) ≡ next_line (row_at rs k).equation (line_place rs k)
+pub line_next : (rs : List Row) (k : ℕ) → k < length rs
+    → line_place rs (suc k) ≡ next_line (row_at rs k).equation (line_place rs k)
 line_next [] k below = absurd (omega arith)
 line_next (r ∷ rs) zero below = ap (λ (n : ℕ). next_line r.equation n) (line_first rs)
 line_next (r ∷ rs) (suc k) below = ap (λ (n : ℕ). next_line r.equation n) (line_next rs k (omega arith)) ∙ lines_swap r.equation (row_at rs k).equation (line_place rs k)
@@ -45,7 +46,8 @@ line_most [] (suc k) = omega arith
 line_most (r ∷ rs) zero = omega arith
 line_most (r ∷ rs) (suc k) = omega (arith, next_most r.equation (line_place rs k) (2 * k) (line_most rs k))
 
-pub line_more : (rs : List Row) (k n : ℕ) → k < length rs → n ≡ next_line (row_at rs k).equation (line_place rs k) → n ≡ line_place rs (k + 1)
+pub line_more : (rs : List Row) (k n : ℕ) → k < length rs → n ≡ next_line (row_at rs k).equation (line_place rs k)
+    → n ≡ line_place rs (k + 1)
 line_more rs k n below is = is ∙ sym (line_next rs k below) ∙ ap (λ (i : ℕ). line_place rs i) (let e : suc k ≡ k + 1 = omega arith in e)
 
 -- ---- openings
@@ -54,12 +56,14 @@ pub places_count : (rows : List Row) (os : List (ℕ × ℕ)) → length (openin
 places_count rows [] = refl
 places_count rows (o ∷ os) = ap suc (places_count rows os)
 
-place_row : (rows : List Row) (os : List (ℕ × ℕ)) (i : ℕ) (o : ℕ × ℕ) → slice_get os i ≡ Some o → (opening_at (opening_places rows os) i).0 ≡ line_place rows o.0
+place_row : (rows : List Row) (os : List (ℕ × ℕ)) (i : ℕ) (o : ℕ × ℕ) → slice_get os i ≡ Some o
+    → (opening_at (opening_places rows os) i).0 ≡ line_place rows o.0
 place_row rows [] i o there = absurd (none-some o there)
 place_row rows (x ∷ os) zero o there = ap (λ (z : ℕ × ℕ). line_place rows z.0) (same_Some x o there)
 place_row rows (x ∷ os) (suc i) o there = place_row rows os i o there
 
-place_column : (rows : List Row) (os : List (ℕ × ℕ)) (i : ℕ) (o : ℕ × ℕ) → slice_get os i ≡ Some o → (opening_at (opening_places rows os) i).1 ≡ suc (suc o.1)
+place_column : (rows : List Row) (os : List (ℕ × ℕ)) (i : ℕ) (o : ℕ × ℕ) → slice_get os i ≡ Some o
+    → (opening_at (opening_places rows os) i).1 ≡ suc (suc o.1)
 place_column rows [] i o there = absurd (none-some o there)
 place_column rows (x ∷ os) zero o there = ap (λ (z : ℕ × ℕ). suc (suc z.1)) (same_Some x o there)
 place_column rows (x ∷ os) (suc i) o there = place_column rows os i o there
@@ -70,7 +74,8 @@ opening_there (x ∷ os) zero o there = same_Some x o there
 opening_there (x ∷ os) (suc i) o there = opening_there os i o there
 
 -- what a pivot asks holds of every sound tableau
-pub sound_can : (p : Program) (t : Tableau) (r : ℕ) → IsSound (all_lines p) (width_of p) t → r < length t.rows → CanPivot t r
+pub sound_can : (p : Program) (t : Tableau) (r : ℕ) → IsSound (all_lines p) (width_of p) t → r < length t.rows
+    → CanPivot t r
 sound_can p t r sound below = record {
   own = λ k less other. sound.own k less;
   apart = λ k less other. sound.apart r k below less (λ (q : r ≡ k). other (sym q));
@@ -101,7 +106,8 @@ ready p os i is opens below =
       can = sound_can p (opened (opening_places p.rows os) i (first_tableau p)) (opening_at (opening_places p.rows os) i).0 x.sound r_below;
     }
 
-pub ready_at : (p : Program) (os : List (ℕ × ℕ)) (i r e : ℕ) (o : ℕ × ℕ) (s : Seen) → IsProgram p → OpensRows p os → i < length os → slice_get os i ≡ Some o
+pub ready_at : (p : Program) (os : List (ℕ × ℕ)) (i r e : ℕ) (o : ℕ × ℕ) (s : Seen) → IsProgram p → OpensRows p os
+    → i < length os → slice_get os i ≡ Some o
     → r ≡ line_place p.rows o.0 → e ≡ suc (suc o.1) → IsOpenedSo p os i s → IsReady s.tableau r e
 ready_at p os i r e o s is opens below there row column so =
     let q : (opening_at (opening_places p.rows os) i).0 ≡ r = place_row p.rows os i o there ∙ sym row in
@@ -111,7 +117,8 @@ ready_at p os i r e o s is opens below there row column so =
     (subst (λ (n : ℕ). IsReady (opened (opening_places p.rows os) i (first_tableau p)) (opening_at (opening_places p.rows os) i).0 n) c (ready p os i is opens below)))
 
 -- no pivot of the opening is wide
-pub never_wide : (p : Program) (os : List (ℕ × ℕ)) (i r e : ℕ) (o : ℕ × ℕ) (s : Seen) → IsProgram p → OpensRows p os → IsSmall p → length os < 4294967296
+pub never_wide : (p : Program) (os : List (ℕ × ℕ)) (i r e : ℕ) (o : ℕ × ℕ) (s : Seen) → IsProgram p → OpensRows p os
+    → IsSmall p → length os < 4294967296
     → i < length os → slice_get os i ≡ Some o
     → r ≡ line_place p.rows o.0 → e ≡ suc (suc o.1) → IsOpenedSo p os i s → exchange_wide r e (held_at s.tableau.rows r).line s.tableau ≡ false
 never_wide p os i r e o s is opens small few below there row column so =
@@ -143,14 +150,17 @@ opened_more p os i r e o old new there row column so made =
 pub first_opened : (p : Program) (os : List (ℕ × ℕ)) (s : Seen) → IsFirst p s → IsOpenedSo p os 0 s
 first_opened p os s first = record { width = first.width; tableau = first.tableau }
 
-pub all_opened : (p : Program) (os : List (ℕ × ℕ)) (n : ℕ) (s : Seen) → n ≡ length os → IsOpenedSo p os n s → IsStarted p os s
+pub all_opened : (p : Program) (os : List (ℕ × ℕ)) (n : ℕ) (s : Seen) → n ≡ length os → IsOpenedSo p os n s
+    → IsStarted p os s
 all_opened p os n s all so = record {
   width = so.width;
   tableau = so.tableau ∙ ap (λ (n : ℕ). opened (opening_places p.rows os) n (first_tableau p)) (all ∙ sym (places_count p.rows os));
 }
 
-pub row_there : (p : Program) (os : List (ℕ × ℕ)) (i : ℕ) (o : ℕ × ℕ) → OpensRows p os → i < length os → slice_get os i ≡ Some o → o.0 < length p.rows
+pub row_there : (p : Program) (os : List (ℕ × ℕ)) (i : ℕ) (o : ℕ × ℕ) → OpensRows p os → i < length os
+    → slice_get os i ≡ Some o → o.0 < length p.rows
 row_there p os i o opens below there = let low = opens.rows i below in subst (λ (z : ℕ × ℕ). z.0 < length p.rows) (opening_there os i o there) low
 
-pub column_there : (p : Program) (os : List (ℕ × ℕ)) (i : ℕ) (o : ℕ × ℕ) → OpensRows p os → i < length os → slice_get os i ≡ Some o → o.1 < length p.costs
+pub column_there : (p : Program) (os : List (ℕ × ℕ)) (i : ℕ) (o : ℕ × ℕ) → OpensRows p os → i < length os
+    → slice_get os i ≡ Some o → o.1 < length p.costs
 column_there p os i o opens below there = let low = opens.columns i below in subst (λ (z : ℕ × ℕ). z.1 < length p.costs) (opening_there os i o there) low

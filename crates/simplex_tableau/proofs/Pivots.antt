@@ -20,19 +20,22 @@ use Rattle.simplex_tableau.proofs.Exchange.{exchanged_rows, rows_narrow, some_ro
 
 -- ---- what freeing asks
 
-pub cost_freeable : (w : ℕ) (rows : List HeldTerms) (d : List (ℕ × ℤ)) (t : Seen) (h : List (ℕ × ℤ)) (x : HeldTerms) → seen w rows d ≡ t → IsKept w d
+pub cost_freeable : (w : ℕ) (rows : List HeldTerms) (d : List (ℕ × ℤ)) (t : Seen) (h : List (ℕ × ℤ)) (x : HeldTerms)
+    → seen w rows d ≡ t → IsKept w d
     → pos 1 ≤ℤ entry t.tableau.objective 1 → coefficient h 1 ≡ pos 0 → x ≡ record { basic = 1; terms = d } → IsFreeable h x
 cost_freeable w rows d t h x same kept scale flat is =
     let above : pos 1 ≤ℤ entry (spread w 0 d) 1 = subst (λ (s : Seen). pos 1 ≤ℤ entry s.tableau.objective 1) (sym same) scale in
     let there = spread_is w d 1 kept.within in
     subst (λ (y : HeldTerms). IsFreeable h y) (sym is) (record { own = omega (arith, ints, above, there); apart = flat })
 
-pub row_below : (w : ℕ) (rows : List HeldTerms) (d : List (ℕ × ℤ)) (t : Seen) (r : ℕ) → seen w rows d ≡ t → r < length t.tableau.rows → r < length rows
+pub row_below : (w : ℕ) (rows : List HeldTerms) (d : List (ℕ × ℤ)) (t : Seen) (r : ℕ) → seen w rows d ≡ t
+    → r < length t.tableau.rows → r < length rows
 row_below w rows d t r same below =
     let shown : r < length (shown_rows w rows) = subst (λ (s : Seen). r < length s.tableau.rows) (sym same) below in
     omega (arith, shown, shown_count w rows)
 
-pub rows_freeable : (w : ℕ) (rows : List HeldTerms) (d : List (ℕ × ℤ)) (t : Seen) (r : ℕ) (h : List (ℕ × ℤ)) → seen w rows d ≡ t → AreKept w rows
+pub rows_freeable : (w : ℕ) (rows : List HeldTerms) (d : List (ℕ × ℤ)) (t : Seen) (r : ℕ) (h : List (ℕ × ℤ))
+    → seen w rows d ≡ t → AreKept w rows
     → ((k : ℕ) → k < length t.tableau.rows → (k ≡ r → ⊥) → pos 1 ≤ℤ number_at t.tableau k (basic_at t.tableau k))
     → ((k : ℕ) → k < length t.tableau.rows → (k ≡ r → ⊥) → coefficient h (basic_at t.tableau k) ≡ pos 0)
     → (k : ℕ) → k < length rows → (k ≡ r → ⊥) → IsFreeable h (terms_at rows k)
@@ -54,7 +57,8 @@ rows_freeable w rows d t r h same kept own apart k below other =
 
 -- ---- what is made
 
-pub rows_are_wide : (w e r : ℕ) (h : List (ℕ × ℤ)) (rows : List HeldTerms) (d : List (ℕ × ℤ)) (t : Seen) → seen w rows d ≡ t → AreKept w rows → IsKept t.width h
+pub rows_are_wide : (w e r : ℕ) (h : List (ℕ × ℤ)) (rows : List HeldTerms) (d : List (ℕ × ℤ)) (t : Seen)
+    → seen w rows d ≡ t → AreKept w rows → IsKept t.width h
     → IsSomeWide e h r rows → exchange_wide r e (spread t.width 0 h) t.tableau ≡ true
 rows_are_wide w e r h rows d t same kept by some =
     let width : w ≡ t.width = ap (λ (s : Seen). s.width) same in
@@ -62,7 +66,8 @@ rows_are_wide w e r h rows d t same kept by some =
     subst (λ (s : Seen). exchange_wide r e (spread s.width 0 h) s.tableau ≡ true) same
     (or_left (rows_wide r e (spread w 0 h) (shown_rows w rows)) (cleared_wide e (spread w 0 h) (spread w 0 d)) (some_row_wide w e h within r rows kept some))
 
-pub cost_is_wide : (w e r : ℕ) (h : List (ℕ × ℤ)) (rows : List HeldTerms) (d : List (ℕ × ℤ)) (t : Seen) (x : HeldTerms) → seen w rows d ≡ t → IsKept w d
+pub cost_is_wide : (w e r : ℕ) (h : List (ℕ × ℤ)) (rows : List HeldTerms) (d : List (ℕ × ℤ)) (t : Seen) (x : HeldTerms)
+    → seen w rows d ≡ t → IsKept w d
     → IsKept t.width h
     → x ≡ record { basic = 1; terms = d } → IsStepWide e h x → exchange_wide r e (spread t.width 0 h) t.tableau ≡ true
 cost_is_wide w e r h rows d t x same kept by is wide =
@@ -72,7 +77,8 @@ cost_is_wide w e r h rows d t x same kept by is wide =
     subst (λ (s : Seen). exchange_wide r e (spread s.width 0 h) s.tableau ≡ true) same
     (or_right (rows_wide r e (spread w 0 h) (shown_rows w rows)) (cleared_wide e (spread w 0 h) (spread w 0 d)) (wide_.wide w kept.within within))
 
-two_parts : (a b : List Held) (c d : List ℤ) → a ≡ b → c ≡ d → ◌≡◌ {A = Tableau} (record { rows = a; objective = c }) (record { rows = b; objective = d })
+two_parts : (a b : List Held) (c d : List ℤ) → a ≡ b → c ≡ d
+    → ◌≡◌ {A = Tableau} (record { rows = a; objective = c }) (record { rows = b; objective = d })
 two_parts a b c d one two = ap (λ (x : List Held). let t : Tableau = record { rows = x; objective = c } in t) one ∙ ap (λ (x : List ℤ). let t : Tableau = record { rows = b; objective = x } in t) two
 
 module _ (w e r : ℕ) (h : List (ℕ × ℤ)) (rows more : List HeldTerms) (d : List (ℕ × ℤ)) (t : Seen) (x y : HeldTerms)
@@ -121,18 +127,22 @@ turned_kept w f out turned kept = record {
   one = ap line_gcd (turned.line w) ∙ turned_gcd (spread w 0 f) ∙ kept.one;
 }
 
-turned_number : (w : ℕ) (f out : List (ℕ × ℤ)) (l : List ℤ) (j : ℕ) → IsTurned f out → IsKept w f → l ≡ spread w 0 f → coefficient out j ≡ neg_ℤ (pos 1) *ℤ entry l j
+turned_number : (w : ℕ) (f out : List (ℕ × ℤ)) (l : List ℤ) (j : ℕ) → IsTurned f out → IsKept w f → l ≡ spread w 0 f
+    → coefficient out j ≡ neg_ℤ (pos 1) *ℤ entry l j
 turned_number w f out l j turned kept shown =
     sym (spread_is w out j (turned.within w kept.within)) ∙ ap (λ (x : List ℤ). entry x j) (turned.line w) ∙ entry_times (neg_ℤ (pos 1)) (spread w 0 f) j
     ∙ ap (λ (x : List ℤ). neg_ℤ (pos 1) *ℤ entry x j) (sym shown)
 
-pub turned_above : (w : ℕ) (f out : List (ℕ × ℤ)) (l : List ℤ) (j : ℕ) → IsTurned f out → IsKept w f → l ≡ spread w 0 f → entry l j <ℤ pos 0 → pos 0 <ℤ coefficient out j
+pub turned_above : (w : ℕ) (f out : List (ℕ × ℤ)) (l : List ℤ) (j : ℕ) → IsTurned f out → IsKept w f → l ≡ spread w 0 f
+    → entry l j <ℤ pos 0 → pos 0 <ℤ coefficient out j
 turned_above w f out l j turned kept shown low = omega (arith, ints, turned_number w f out l j turned kept shown, low)
 
-pub turned_none : (w : ℕ) (f out : List (ℕ × ℤ)) (l : List ℤ) (j : ℕ) → IsTurned f out → IsKept w f → l ≡ spread w 0 f → entry l j ≡ pos 0 → coefficient out j ≡ pos 0
+pub turned_none : (w : ℕ) (f out : List (ℕ × ℤ)) (l : List ℤ) (j : ℕ) → IsTurned f out → IsKept w f → l ≡ spread w 0 f
+    → entry l j ≡ pos 0 → coefficient out j ≡ pos 0
 turned_none w f out l j turned kept shown none = omega (arith, ints, turned_number w f out l j turned kept shown, none)
 
-pub line_too_wide : (w r e : ℕ) (f : List (ℕ × ℤ)) (t : Tableau) → IsTurnedWide f → IsKept w f → (held_at t.rows r).line ≡ spread w 0 f → step_wide r e t ≡ true
+pub line_too_wide : (w r e : ℕ) (f : List (ℕ × ℤ)) (t : Tableau) → IsTurnedWide f → IsKept w f
+    → (held_at t.rows r).line ≡ spread w 0 f → step_wide r e t ≡ true
 line_too_wide w r e f t wide kept shown =
     let h = times_line (neg_ℤ (pos 1)) (held_at t.rows r).line in
     or_left (line_wide h) (exchange_wide r e h t) (ap (λ (l : List ℤ). line_wide (times_line (neg_ℤ (pos 1)) l)) shown ∙ wide.wide w kept.within)
@@ -141,13 +151,15 @@ line_is : (w r : ℕ) (f out : List (ℕ × ℤ)) (t : Tableau) → IsTurned f o
     → spread w 0 out ≡ times_line (neg_ℤ (pos 1)) (held_at t.rows r).line
 line_is w r f out t turned shown = turned.line w ∙ ap (λ (l : List ℤ). times_line (neg_ℤ (pos 1)) l) (sym shown)
 
-pub rest_too_wide : (w r e : ℕ) (f out : List (ℕ × ℤ)) (t : Tableau) → IsTurned f out → (held_at t.rows r).line ≡ spread w 0 f
+pub rest_too_wide : (w r e : ℕ) (f out : List (ℕ × ℤ)) (t : Tableau) → IsTurned f out
+    → (held_at t.rows r).line ≡ spread w 0 f
     → exchange_wide r e (spread w 0 out) t ≡ true → step_wide r e t ≡ true
 rest_too_wide w r e f out t turned shown wide =
     let h = times_line (neg_ℤ (pos 1)) (held_at t.rows r).line in
     or_right (line_wide h) (exchange_wide r e h t) (ap (λ (l : List ℤ). exchange_wide r e l t) (sym (line_is w r f out t turned shown)) ∙ wide)
 
-pub pivot_is : (r e : ℕ) (f out : List (ℕ × ℤ)) (old new : Seen) → IsTurned f out → (held_at old.tableau.rows r).line ≡ spread old.width 0 f
+pub pivot_is : (r e : ℕ) (f out : List (ℕ × ℤ)) (old new : Seen) → IsTurned f out
+    → (held_at old.tableau.rows r).line ≡ spread old.width 0 f
     → IsExchanged r e (spread old.width 0 out) old new → IsPivoted r e old new
 pivot_is r e f out old new turned shown x =
     let h = times_line (neg_ℤ (pos 1)) (held_at old.tableau.rows r).line in
@@ -166,16 +178,19 @@ times_one : (f : List ℤ) → times_line (pos 1) f ≡ f
 times_one [] = refl
 times_one (x ∷ f) = let e : pos 1 *ℤ x ≡ x = omega (arith, ints) in rw (e, times_one f) refl
 
-pub same_number : (w : ℕ) (f out : List (ℕ × ℤ)) (l : List ℤ) (j : ℕ) → out ≡ f → IsKept w f → l ≡ spread w 0 f → entry l j ≡ coefficient out j
+pub same_number : (w : ℕ) (f out : List (ℕ × ℤ)) (l : List ℤ) (j : ℕ) → out ≡ f → IsKept w f → l ≡ spread w 0 f
+    → entry l j ≡ coefficient out j
 same_number w f out l j is kept shown = ap (λ (x : List ℤ). entry x j) shown ∙ spread_is w f j kept.within ∙ ap (λ (ts : List (ℕ × ℤ)). coefficient ts j) (sym is)
 
-pub opening_wide : (r e : ℕ) (f out : List (ℕ × ℤ)) (old : Seen) → out ≡ f → (held_at old.tableau.rows r).line ≡ spread old.width 0 f
+pub opening_wide : (r e : ℕ) (f out : List (ℕ × ℤ)) (old : Seen) → out ≡ f
+    → (held_at old.tableau.rows r).line ≡ spread old.width 0 f
     → exchange_wide r e (spread old.width 0 out) old.tableau ≡ true → exchange_wide r e (held_at old.tableau.rows r).line old.tableau ≡ true
 opening_wide r e f out old is shown wide =
     let line : spread old.width 0 out ≡ (held_at old.tableau.rows r).line = ap (λ (ts : List (ℕ × ℤ)). spread old.width 0 ts) is ∙ sym shown in
     ap (λ (l : List ℤ). exchange_wide r e l old.tableau) (sym line) ∙ wide
 
-pub opening_is : (r e : ℕ) (f out : List (ℕ × ℤ)) (old new : Seen) → out ≡ f → (held_at old.tableau.rows r).line ≡ spread old.width 0 f
+pub opening_is : (r e : ℕ) (f out : List (ℕ × ℤ)) (old new : Seen) → out ≡ f
+    → (held_at old.tableau.rows r).line ≡ spread old.width 0 f
     → IsExchanged r e (spread old.width 0 out) old new → IsOpened r e old new
 opening_is r e f out old new is shown x =
     let line : spread old.width 0 out ≡ times_line (pos 1) (held_at old.tableau.rows r).line =

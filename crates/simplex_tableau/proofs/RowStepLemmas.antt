@@ -32,7 +32,8 @@ pub rows_next : (rs : List Row) (k s : ℕ) → k < length rs
     → first_rows (drop k rs) s ≡ row_held (row_at rs k).equation (row_at rs k) s ++ first_rows (drop (suc k) rs) (next_slack (row_at rs k).equation s)
 rows_next rs k s below = ap (λ (l : List Row). first_rows l s) (row_next rs k below)
 
-pub costs_next : (cs : List ℕ) (k j : ℕ) → k < length cs → some_costs (drop k cs) j ≡ term_if j (neg_ℤ (pos (cost_at cs k))) ++ some_costs (drop (suc k) cs) (suc j)
+pub costs_next : (cs : List ℕ) (k j : ℕ) → k < length cs
+    → some_costs (drop k cs) j ≡ term_if j (neg_ℤ (pos (cost_at cs k))) ++ some_costs (drop (suc k) cs) (suc j)
 costs_next cs k j below = ap (λ (l : List ℕ). some_costs l j) (cost_next cs k below)
 
 pub slacks_are : (p : Program) → length p.costs + 2 ≡ slacks_from p
@@ -45,7 +46,8 @@ grouped : {A : Type 0} (xs ys zs : List A) → (xs ++ ys) ++ zs ≡ xs ++ (ys ++
 grouped [] ys zs = refl
 grouped (x ∷ xs) ys zs = ap (λ l. x ∷ l) (grouped xs ys zs)
 
-pub rows_more : (rs : List Row) (k s n : ℕ) (out new all : List HeldTerms) → k < length rs → new ≡ out ++ row_held (row_at rs k).equation (row_at rs k) s
+pub rows_more : (rs : List Row) (k s n : ℕ) (out new all : List HeldTerms) → k < length rs
+    → new ≡ out ++ row_held (row_at rs k).equation (row_at rs k) s
     → n ≡ next_slack (row_at rs k).equation s → out ++ first_rows (drop k rs) s ≡ all → new ++ first_rows (drop (k + 1) rs) n ≡ all
 rows_more rs k s n out new all below made next so =
     let held = row_held (row_at rs k).equation (row_at rs k) s in
@@ -54,7 +56,8 @@ rows_more rs k s n out new all below made next so =
     ∙ grouped out held (first_rows (drop (suc k) rs) (next_slack (row_at rs k).equation s))
     ∙ ap (λ (l : List HeldTerms). out ++ l) (sym (rows_next rs k s below)) ∙ so
 
-pub costs_more : (cs : List ℕ) (k : ℕ) (out new all : List (ℕ × ℤ)) → k < length cs → new ≡ out ++ term_if (k + 2) (neg_ℤ (pos (cost_at cs k)))
+pub costs_more : (cs : List ℕ) (k : ℕ) (out new all : List (ℕ × ℤ)) → k < length cs
+    → new ≡ out ++ term_if (k + 2) (neg_ℤ (pos (cost_at cs k)))
     → out ++ some_costs (drop k cs) (k + 2) ≡ all → new ++ some_costs (drop (k + 1) cs) (k + 1 + 2) ≡ all
 costs_more cs k out new all below made so =
     let term = term_if (k + 2) (neg_ℤ (pos (cost_at cs k))) in

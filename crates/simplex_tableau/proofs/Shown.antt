@@ -34,7 +34,8 @@ set_there [] i x below = absurd (omega arith)
 set_there (r ∷ rs) zero x below = refl
 set_there (r ∷ rs) (suc i) x below = set_there rs i x (omega arith)
 
-pub set_other : (rows : List HeldTerms) (i j : ℕ) (x : HeldTerms) → (j ≡ i → ⊥) → terms_at (slice_set rows i x) j ≡ terms_at rows j
+pub set_other : (rows : List HeldTerms) (i j : ℕ) (x : HeldTerms) → (j ≡ i → ⊥)
+    → terms_at (slice_set rows i x) j ≡ terms_at rows j
 set_other [] i j x d = refl
 set_other (r ∷ rs) zero zero x d = absurd (d refl)
 set_other (r ∷ rs) zero (suc j) x d = refl
@@ -47,9 +48,11 @@ pub number_shown : (w : ℕ) (rows : List HeldTerms) (k j : ℕ) → k < length 
 number_shown w rows k j below within =
     ap (λ (h : Held). entry h.line j) (shown_at w rows k below) ∙ spread_is w (terms_at rows k).terms j within
 
-pub basic_shown : (w : ℕ) (rows : List HeldTerms) (k : ℕ) → k < length rows → (held_at (shown_rows w rows) k).basic ≡ (terms_at rows k).basic
+pub basic_shown : (w : ℕ) (rows : List HeldTerms) (k : ℕ) → k < length rows
+    → (held_at (shown_rows w rows) k).basic ≡ (terms_at rows k).basic
 basic_shown w rows k below = ap (λ (h : Held). h.basic) (shown_at w rows k below)
 
 -- a number of a line that is shown
-pub number_of_line : (w : ℕ) (f : List ℤ) (ts : List (ℕ × ℤ)) (j : ℕ) → f ≡ spread w 0 ts → IsKept w ts → coefficient ts j ≡ entry f j
+pub number_of_line : (w : ℕ) (f : List ℤ) (ts : List (ℕ × ℤ)) (j : ℕ) → f ≡ spread w 0 ts → IsKept w ts
+    → coefficient ts j ≡ entry f j
 number_of_line w f ts j shown kept = sym (ap (λ (l : List ℤ). entry l j) shown ∙ spread_is w ts j kept.within)

@@ -30,7 +30,8 @@ use Rattle.simplex_tableau.proofs.TermLemmas.{each_at, divided_is}
 two_heads : (x y : ℤ) (f h : List ℤ) → x ≡ y → f ≡ h → (x ∷ f) ≡ (y ∷ h)
 two_heads x y f h p q = rw (p, q) refl
 
-pub spread_divided : (n j : ℕ) (g : ℤ) (ts : List (ℕ × ℤ)) → pos 1 ≤ℤ g → DividesEach g ts → spread n j (divided_terms g ts) ≡ divided g (spread n j ts)
+pub spread_divided : (n j : ℕ) (g : ℤ) (ts : List (ℕ × ℤ)) → pos 1 ≤ℤ g → DividesEach g ts
+    → spread n j (divided_terms g ts) ≡ divided g (spread n j ts)
 spread_divided zero j g ts above each_one = refl
 spread_divided (suc n) j g ts above each_one =
     two_heads (coefficient (divided_terms g ts) j) (int_div_euclid (coefficient ts j) g) (spread n (suc j) (divided_terms g ts)) (divided g (spread n (suc j) ts))
@@ -38,7 +39,8 @@ spread_divided (suc n) j g ts above each_one =
     (divided_is g ts j above each_one ∙ sym (exact g (coefficient ts j) above (each_at g ts j each_one))))
     (spread_divided n (suc j) g ts above each_one)
 
-pub spread_mixed : (n j : ℕ) (a b : ℤ) (f h out : List (ℕ × ℤ)) → ((i : ℕ) → coefficient out i ≡ (a *ℤ coefficient f i) -ℤ (b *ℤ coefficient h i))
+pub spread_mixed : (n j : ℕ) (a b : ℤ) (f h out : List (ℕ × ℤ))
+    → ((i : ℕ) → coefficient out i ≡ (a *ℤ coefficient f i) -ℤ (b *ℤ coefficient h i))
     → spread n j out ≡ mixed a b (spread n j f) (spread n j h)
 spread_mixed zero j a b f h out each_one = refl
 spread_mixed (suc n) j a b f h out each_one =
@@ -56,12 +58,14 @@ spread_turned (suc n) j ts =
 
 -- ---- tests
 
-pub mixed_narrow : (n j : ℕ) (a b : ℤ) (f h : List (ℕ × ℤ)) → ((i : ℕ) → narrow a b (coefficient f i) (coefficient h i) ≡ true)
+pub mixed_narrow : (n j : ℕ) (a b : ℤ) (f h : List (ℕ × ℤ))
+    → ((i : ℕ) → narrow a b (coefficient f i) (coefficient h i) ≡ true)
     → mixed_wide a b (spread n j f) (spread n j h) ≡ false
 mixed_narrow zero j a b f h each_one = refl
 mixed_narrow (suc n) j a b f h each_one = rw (each_one j) (mixed_narrow n (suc j) a b f h each_one)
 
-pub mixed_wide_there : (n j q : ℕ) (a b : ℤ) (f h : List (ℕ × ℤ)) → j ≤ q → q < n + j → narrow a b (coefficient f q) (coefficient h q) ≡ false
+pub mixed_wide_there : (n j q : ℕ) (a b : ℤ) (f h : List (ℕ × ℤ)) → j ≤ q → q < n + j
+    → narrow a b (coefficient f q) (coefficient h q) ≡ false
     → mixed_wide a b (spread n j f) (spread n j h) ≡ true
 mixed_wide_there zero j q a b f h least most wide = absurd (omega arith)
 mixed_wide_there (suc n) j q a b f h least most wide =
@@ -73,11 +77,13 @@ mixed_wide_there (suc n) j q a b f h least most wide =
     (λ (d : q ≡ j → ⊥). or_right (not here) rest (mixed_wide_there n (suc j) q a b f h (omega arith) (omega arith) wide))
     (cases_eq q j)
 
-pub line_narrow : (n j : ℕ) (ts : List (ℕ × ℤ)) → ((i : ℕ) → fits (coefficient ts i) ≡ true) → line_wide (spread n j ts) ≡ false
+pub line_narrow : (n j : ℕ) (ts : List (ℕ × ℤ)) → ((i : ℕ) → fits (coefficient ts i) ≡ true)
+    → line_wide (spread n j ts) ≡ false
 line_narrow zero j ts each_one = refl
 line_narrow (suc n) j ts each_one = rw (each_one j) (line_narrow n (suc j) ts each_one)
 
-pub line_wide_there : (n j q : ℕ) (ts : List (ℕ × ℤ)) → j ≤ q → q < n + j → fits (coefficient ts q) ≡ false → line_wide (spread n j ts) ≡ true
+pub line_wide_there : (n j q : ℕ) (ts : List (ℕ × ℤ)) → j ≤ q → q < n + j → fits (coefficient ts q) ≡ false
+    → line_wide (spread n j ts) ≡ true
 line_wide_there zero j q ts least most wide = absurd (omega arith)
 line_wide_there (suc n) j q ts least most wide =
     ⊎_elim
@@ -119,7 +125,8 @@ gcd_alone (pos n) above = ap pos (sym (gcd_end n))
 gcd_alone (negsuc n) above = absurd (omega (arith, ints))
 
 -- a line without the place, of divisor 1, stays
-pub cleared_kept : (e : ℕ) (h f : List ℤ) → pos 1 ≤ℤ entry h e → entry f e ≡ pos 0 → line_gcd f ≡ pos 1 → length h ≤ length f → cleared e h f ≡ f
+pub cleared_kept : (e : ℕ) (h f : List ℤ) → pos 1 ≤ℤ entry h e → entry f e ≡ pos 0 → line_gcd f ≡ pos 1
+    → length h ≤ length f → cleared e h f ≡ f
 cleared_kept e h f above none one less =
     let p = entry h e in
     let g = gcd p (pos 0) in

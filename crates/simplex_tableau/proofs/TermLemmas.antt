@@ -44,14 +44,16 @@ each_at d (t ∷ ts) j each_one = divides_sum d (coefficient_of t j) (coefficien
 
 -- ---- divided lines
 
-term_divided : (d : ℤ) (c j : ℕ) (x : ℤ) → pos 1 ≤ℤ d → Divides d x → d *ℤ coefficient_of (c, int_div_euclid x d) j ≡ coefficient_of (c, x) j
+term_divided : (d : ℤ) (c j : ℕ) (x : ℤ) → pos 1 ≤ℤ d → Divides d x
+    → d *ℤ coefficient_of (c, int_div_euclid x d) j ≡ coefficient_of (c, x) j
 term_divided d c j x above m = ⊎_elim
     (λ (q : c ≡ j). rw (term_here c j (int_div_euclid x d) q, term_here c j x q) (exact d x above m))
     (λ (n : c ≡ j → ⊥). rw (term_elsewhere c j (int_div_euclid x d) n, term_elsewhere c j x n) (omega (arith, ints)))
     (cases_eq c j)
 
 -- the divided line, times the divisor, is the line
-pub divided_is : (d : ℤ) (ts : List (ℕ × ℤ)) (j : ℕ) → pos 1 ≤ℤ d → DividesEach d ts → d *ℤ coefficient (divided_terms d ts) j ≡ coefficient ts j
+pub divided_is : (d : ℤ) (ts : List (ℕ × ℤ)) (j : ℕ) → pos 1 ≤ℤ d → DividesEach d ts
+    → d *ℤ coefficient (divided_terms d ts) j ≡ coefficient ts j
 divided_is d [] j above each_one = omega (arith, ints)
 divided_is d (t ∷ ts) j above each_one =
     omega (

@@ -20,7 +20,8 @@ use Rattle.simplex_tableau.proofs.StepLaws.{spread_turned, line_narrow, line_wid
 
 -- ---- one term
 
-pub number_turned : (t : ℕ × ℤ) (ts : List (ℕ × ℤ)) (z : ℤ) → Some z ≡ fitting (neg_ℤ t.1) → (z ≡ neg_ℤ t.1) × (turned_fits (t ∷ ts) ≡ turned_fits ts)
+pub number_turned : (t : ℕ × ℤ) (ts : List (ℕ × ℤ)) (z : ℤ) → Some z ≡ fitting (neg_ℤ t.1)
+    → (z ≡ neg_ℤ t.1) × (turned_fits (t ∷ ts) ≡ turned_fits ts)
 number_turned t ts z e = by_test (fits (neg_ℤ t.1))
     (λ (v : fits (neg_ℤ t.1) ≡ true). let s : fitting (neg_ℤ t.1) ≡ Some (neg_ℤ t.1) = rw v refl in (cc, rw v refl))
     (λ (v : fits (neg_ℤ t.1) ≡ false). let s : fitting (neg_ℤ t.1) ≡ None = rw v refl in absurd cc)
@@ -33,7 +34,8 @@ number_not_turned t ts e = by_test (fits (neg_ℤ t.1))
 -- ---- all terms
 
 -- where each term's number fits turned, so does each place's
-each_fits : (ts : List (ℕ × ℤ)) (i : ℕ) → IsAscending ts → turned_fits ts ≡ true → fits (neg_ℤ (coefficient ts i)) ≡ true
+each_fits : (ts : List (ℕ × ℤ)) (i : ℕ) → IsAscending ts → turned_fits ts ≡ true
+    → fits (neg_ℤ (coefficient ts i)) ≡ true
 each_fits [] i rises all = refl
 each_fits (t ∷ ts) i rises all =
     let parts = and_parts (fits (neg_ℤ t.1)) (turned_fits ts) all in
@@ -68,7 +70,8 @@ wide_at (t ∷ ts) rises none = by_test (fits (neg_ℤ t.1))
       wide = subst (λ (z : ℤ). fits (neg_ℤ z) ≡ false) (found_here t ts t.0 rises refl) v;
     })
 
-turned_place : (ts : List (ℕ × ℤ)) (i : ℕ) (v : Bool) → fits (neg_ℤ (coefficient ts i)) ≡ v → fits (coefficient (turned ts) i) ≡ v
+turned_place : (ts : List (ℕ × ℤ)) (i : ℕ) (v : Bool) → fits (neg_ℤ (coefficient ts i)) ≡ v
+    → fits (coefficient (turned ts) i) ≡ v
 turned_place ts i v e = ap fits (coefficient_turned ts i) ∙ e
 
 pub turned_is : (f out : List (ℕ × ℤ)) → IsAscending f → out ≡ turned f → turned_fits f ≡ true → IsTurned f out

@@ -37,7 +37,8 @@ great x y p q =
     let more : (pos (2 ^ 127) *ℤ y) ≤ℤ (x *ℤ y) = times_rising (pos (2 ^ 127)) x y p (omega (arith, ints, q)) in
     omega (arith, ints, more, q)
 
-pub none_turned : (a b : ℤ) → (FitsSigned w128 (neg_ℤ a) → ⊥) → (FitsSigned w128 (neg_ℤ b) → ⊥) → None ≡ fitting (a *ℤ neg_ℤ b)
+pub none_turned : (a b : ℤ) → (FitsSigned w128 (neg_ℤ a) → ⊥) → (FitsSigned w128 (neg_ℤ b) → ⊥)
+    → None ≡ fitting (a *ℤ neg_ℤ b)
 none_turned a b p q = ⊎_elim
     (λ (x : pos (2 ^ 127) ≤ℤ a). ⊎_elim
     (λ (y : pos (2 ^ 127) ≤ℤ b). under_fit (a *ℤ neg_ℤ b) (omega (arith, ints, great a b x y, times_neg a b)))

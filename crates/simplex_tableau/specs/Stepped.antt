@@ -26,8 +26,10 @@ pub record IsFreeable (h : List (ℕ × ℤ)) (k : HeldTerms) : Type 0 where
 -- the row is freed of place e by h, and no number on the way was wide
 pub record IsStepped (e : ℕ) (h : List (ℕ × ℤ)) (old new : HeldTerms) : Type 0 where
   pub basic : new.basic ≡ old.basic
-  pub line : (w : ℕ) → IsKept w old.terms → IsWithin w h → spread w 0 new.terms ≡ cleared e (spread w 0 h) (spread w 0 old.terms)
-  pub narrow : (w : ℕ) → IsWithin w old.terms → IsWithin w h → cleared_wide e (spread w 0 h) (spread w 0 old.terms) ≡ false
+  pub line : (w : ℕ) → IsKept w old.terms → IsWithin w h
+      → spread w 0 new.terms ≡ cleared e (spread w 0 h) (spread w 0 old.terms)
+  pub narrow : (w : ℕ) → IsWithin w old.terms → IsWithin w h
+      → cleared_wide e (spread w 0 h) (spread w 0 old.terms) ≡ false
   pub kept : (w : ℕ) → IsKept w old.terms → IsWithin w h → IsKept w new.terms
 
 -- some number on the way is wide

@@ -47,7 +47,8 @@ impl SparseTableau {
     #[tactic(auto, using(crate::proofs::Choices::choice_is))]
     pub fn entering(&self, row: usize) -> Option<Option<u32>>
         requires { row < length self.now.tableau.rows }
-        ensures { result ≡ entering_answer (held_at self.now.tableau.rows row).line self.now.tableau.objective (self.now.width - 2) }
+        ensures { result
+            ≡ entering_answer (held_at self.now.tableau.rows row).line self.now.tableau.objective (self.now.width - 2) }
     {
         let variables = from_place(self.held(row).line().terms(), 2);
         match chosen(variables, self.objective.terms()) {

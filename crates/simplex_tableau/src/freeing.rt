@@ -28,7 +28,9 @@ pub fn freed_terms(
     requires here { coefficient line.now place ≢ pos 0 }
     requires own { pos 0 <ℤ coefficient line.now own }
     requires apart { coefficient row.now own ≡ pos 0 }
-    ensures { IfOk result (λ answer. MatchOption answer (IsFreedWide place row.now line.now) (λ out. IsFreed place row.now line.now out.items)) }
+    ensures { IfOk result
+        (λ answer. MatchOption answer (IsFreedWide place row.now line.now)
+        (λ out. IsFreed place row.now line.now out.items)) }
 {
     let there = number_in(row, place);
     let here = number_in(line, place);

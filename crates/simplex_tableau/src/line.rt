@@ -77,7 +77,9 @@ impl Line {
         requires here { coefficient self.now place ≢ pos 0 }
         requires own { pos 0 <ℤ coefficient self.now own }
         requires apart { coefficient row.now own ≡ pos 0 }
-        ensures { IfOk result (λ answer. MatchOption answer (IsFreedWide place row.now self.now) (λ out. IsFreed place row.now self.now out)) }
+        ensures { IfOk result
+            (λ answer. MatchOption answer (IsFreedWide place row.now self.now)
+            (λ out. IsFreed place row.now self.now out)) }
     {
         match freed_terms(alloc, own, place, row.terms(), self.terms())? {
             None => Ok(None),

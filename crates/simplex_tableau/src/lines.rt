@@ -119,7 +119,10 @@ pub fn push_row(
     requires small { IsSmall rows.now.program }
     requires slack { length rows.now.program.costs + 2 ≤ slack }
     requires room { next_slack (row_at rows.now.program.rows row).equation slack < 2 ^ 32 }
-    ensures held { OnOk result (out.new.items ≡ out.old.items ++ row_held (row_at rows.now.program.rows row).equation (row_at rows.now.program.rows row) slack) }
+    ensures held { OnOk result
+        (out.new.items
+        ≡ out.old.items
+        ++ row_held (row_at rows.now.program.rows row).equation (row_at rows.now.program.rows row) slack) }
     ensures next { IfOk result (λ next. next ≡ next_slack (row_at rows.now.program.rows row).equation slack) }
 {
     rows.kept();

@@ -4,7 +4,8 @@ ghost use Rattle.std.specs.Prelude.{◌≡◌, ◌-ℤ◌, ◌*ℤ◌, IfOk, OnO
 ghost use Rattle.ipet_rows.specs.Rows.{vanishes};
 ghost use Rattle.ipet_rows.specs.Sums.{IsAscending};
 ghost use Rattle.dual_check.specs.Fitting.{fitting};
-ghost use Rattle.simplex_tableau.specs.Merging.{mixed_number, head_number, after_of, next_of, with_number, IsMixture, IsTooWide};
+ghost use Rattle.simplex_tableau.specs.Merging.{mixed_number, head_number, after_of, next_of, with_number, IsMixture};
+ghost use Rattle.simplex_tableau.specs.Merging.{IsTooWide};
 
 use std::alloc::{AllocError, Global};
 use whole_numbers::Whole;
@@ -118,7 +119,8 @@ pub fn mixed(
 ) -> Result<Option<Vec<(u32, Whole)>>, AllocError>
     requires f { IsAscending f.now }
     requires h { IsAscending h.now }
-    ensures { IfOk result (λ answer. MatchOption answer (IsTooWide a b f.now h.now) (λ out. IsMixture a b f.now h.now out.items)) }
+    ensures { IfOk result
+        (λ answer. MatchOption answer (IsTooWide a b f.now h.now) (λ out. IsMixture a b f.now h.now out.items)) }
 {
     let mut out = Vec::new(alloc);
     let mut first = f;

@@ -27,11 +27,15 @@ fn exchanged(
     requires row { row < length tableau.tableau.rows }
     requires kept { IsKept tableau.width by }
     requires place { pos 0 <ℤ coefficient by place }
-    requires own { (k : ℕ) → k < length tableau.tableau.rows → (k ≡ row → ⊥) → pos 1 ≤ℤ number_at tableau.tableau k (basic_at tableau.tableau k) }
-    requires apart { (k : ℕ) → k < length tableau.tableau.rows → (k ≡ row → ⊥) → coefficient by (basic_at tableau.tableau k) ≡ pos 0 }
+    requires own { (k : ℕ) → k < length tableau.tableau.rows → (k ≡ row → ⊥)
+        → pos 1 ≤ℤ number_at tableau.tableau k (basic_at tableau.tableau k) }
+    requires apart { (k : ℕ) → k < length tableau.tableau.rows → (k ≡ row → ⊥)
+        → coefficient by (basic_at tableau.tableau k) ≡ pos 0 }
     requires flat { coefficient by 1 ≡ pos 0 }
     requires scale { pos 1 ≤ℤ entry tableau.tableau.objective 1 }
-    ensures { IfOk result (λ answer. MatchOption answer (exchange_wide row place (spread tableau.width 0 by) tableau.tableau ≡ true) (λ out. IsExchanged row place (spread tableau.width 0 by) tableau out)) }
+    ensures { IfOk result
+        (λ answer. MatchOption answer (exchange_wide row place (spread tableau.width 0 by) tableau.tableau ≡ true)
+        (λ out. IsExchanged row place (spread tableau.width 0 by) tableau out)) }
 {
     let SparseTableau {
         width,
@@ -72,7 +76,9 @@ impl SparseTableau {
         requires row { row < length self.tableau.rows }
         requires place { number_at self.tableau row place <ℤ pos 0 }
         requires can { CanPivot self.tableau row }
-        ensures { IfOk result (λ answer. MatchOption answer (step_wide row place self.tableau ≡ true) (λ out. IsPivoted row place self out)) }
+        ensures { IfOk result
+            (λ answer. MatchOption answer (step_wide row place self.tableau ≡ true)
+            (λ out. IsPivoted row place self out)) }
     {
         let Some(by) = self.held(row).line().turned(alloc)? else {
             return Ok(None);
@@ -93,7 +99,10 @@ impl SparseTableau {
         requires row { row < length self.tableau.rows }
         requires place { pos 0 <ℤ number_at self.tableau row place }
         requires can { CanPivot self.tableau row }
-        ensures { IfOk result (λ answer. MatchOption answer (exchange_wide row place (held_at self.tableau.rows row).line self.tableau ≡ true) (λ out. IsOpened row place self out)) }
+        ensures { IfOk result
+            (λ answer. MatchOption answer
+            (exchange_wide row place (held_at self.tableau.rows row).line self.tableau ≡ true)
+            (λ out. IsOpened row place self out)) }
     {
         let by = copied(alloc, self.held(row).line())?;
         match exchanged(alloc, self, row, place, by)? {

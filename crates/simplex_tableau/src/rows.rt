@@ -22,7 +22,8 @@ fn free_next(
     requires index { index < length rows.old }
     requires place { pos 0 <ℤ coefficient by.now place }
     requires freeable { (index ≡ row → ⊥) → IsFreeable by.now (terms_at rows.old index) }
-    ensures { (first : List HeldTerms) → IsDone place by.now row index first rows.old → IfOk result (λ all. StepsRows all place by.now row (index + 1) first rows.new) }
+    ensures { (first : List HeldTerms) → IsDone place by.now row index first rows.old
+        → IfOk result (λ all. StepsRows all place by.now row (index + 1) first rows.new) }
 {
     if index == row {
         return Ok(true);
@@ -63,7 +64,9 @@ pub fn exchanged_rows(
     requires row { row < length rows.items }
     requires place { pos 0 <ℤ coefficient by place }
     requires freeable { (k : ℕ) → k < length rows.items → (k ≡ row → ⊥) → IsFreeable by (terms_at rows.items k) }
-    ensures { IfOk result (λ answer. MatchOption answer (IsSomeWide place by row rows.items) (λ out. IsReplaced place by row rows.items out.items)) }
+    ensures { IfOk result
+        (λ answer. MatchOption answer (IsSomeWide place by row rows.items)
+        (λ out. IsReplaced place by row rows.items out.items)) }
 {
     if !free_others(alloc, rows.as_mut_slice(), row, place, &by)? {
         return Ok(None);

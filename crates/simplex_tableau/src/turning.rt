@@ -25,7 +25,9 @@ pub fn turned_terms(
     alloc: Global,
     terms: &[(u32, Whole)],
 ) -> Result<Option<Vec<(u32, Whole)>>, AllocError>
-    ensures { IfOk result (λ answer. MatchOption answer (turned_fits terms.now ≡ false) (λ out. (out.items ≡ turned terms.now) × (turned_fits terms.now ≡ true))) }
+    ensures { IfOk result
+        (λ answer. MatchOption answer (turned_fits terms.now ≡ false)
+        (λ out. (out.items ≡ turned terms.now) × (turned_fits terms.now ≡ true))) }
 {
     let mut out = Vec::new(alloc);
     let mut rest = terms;

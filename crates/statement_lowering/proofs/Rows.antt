@@ -59,7 +59,8 @@ row_put within around row i s now next before between after place further l c m 
     ∙ ap (λ (ss : List Stmt). map item_of before ++ row_items within now.scopes (rest_of ss) place l c around rest) (sym (cut row i s low is))
     ∙ inv rest
 
-pub row_labels : (row : List Stmt) (i : ℕ) (s : Stmt) (l m all : ℕ) → i < length row → s ≡ get_or row i s → l + labels_in_all (rest_of (drop i row)) ≡ all → m ≡ l + labels_in (statement_of s)
+pub row_labels : (row : List Stmt) (i : ℕ) (s : Stmt) (l m all : ℕ) → i < length row → s ≡ get_or row i s
+    → l + labels_in_all (rest_of (drop i row)) ≡ all → m ≡ l + labels_in (statement_of s)
     → m + labels_in_all (rest_of (drop (i + 1) row)) ≡ all
 row_labels row i s l m all low is inv labels =
     let here = labels_in (statement_of s) in
@@ -67,7 +68,8 @@ row_labels row i s l m all low is inv labels =
     let whole : l + (here + tail) ≡ all = ap (λ (ss : List Stmt). l + labels_in_all (rest_of ss)) (sym (cut row i s low is)) ∙ inv in
     omega (arith, labels, whole)
 
-pub row_calls : (program : Program) (row : List Stmt) (i : ℕ) (s : Stmt) (c d all : ℕ) → i < length row → s ≡ get_or row i s → c + calls_in_all program (rest_of (drop i row)) ≡ all
+pub row_calls : (program : Program) (row : List Stmt) (i : ℕ) (s : Stmt) (c d all : ℕ) → i < length row
+    → s ≡ get_or row i s → c + calls_in_all program (rest_of (drop i row)) ≡ all
     → d ≡ c + calls_in program (statement_of s) → d + calls_in_all program (rest_of (drop (i + 1) row)) ≡ all
 row_calls program row i s c d all low is inv calls =
     let here = calls_in program (statement_of s) in
@@ -83,7 +85,8 @@ row_elements words row i s low is few =
     let whole : here + tail ≤ most_elements = subst (λ (ss : List Stmt). all_elements_in words (rest_of ss) ≤ most_elements) (cut row i s low is) few in
     omega (arith, whole)
 
-next_places : (s : Statement) (ss : Statements) (place : Option ℕ) → HasPlaces place (Then s ss) → HasPlaces (next_place s place) ss
+next_places : (s : Statement) (ss : Statements) (place : Option ℕ) → HasPlaces place (Then s ss)
+    → HasPlaces (next_place s place) ss
 next_places s ss None few = tt
 next_places s ss (Some place) few = omega (arith, few)
 
@@ -94,7 +97,8 @@ row_places row i s place further low is few next =
     let whole : HasPlaces place (Then (statement_of s) tail) = subst (λ (ss : List Stmt). HasPlaces place (rest_of ss)) (cut row i s low is) few in
     subst (λ (x : Option ℕ). HasPlaces x tail) (sym next) (next_places (statement_of s) tail place whole)
 
-pub row_stays : (before now next : Known) (s : Statement) → Stays before now → next ≡ known_after now s → Stays before next
+pub row_stays : (before now next : Known) (s : Statement) → Stays before now → next ≡ known_after now s
+    → Stays before next
 row_stays before now next s stays known = record {
   words = ap (λ (k : Known). k.words) known ∙ stays.words;
   outer = ap (λ (k : Known). others k.scopes) known ∙ others_after now.scopes s ∙ stays.outer;

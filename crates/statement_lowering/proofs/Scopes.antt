@@ -21,7 +21,8 @@ use Rattle.c_scopes.specs.Views.{Known, others, entered, left}
 use Rattle.statement_lowering.specs.Afterwards.{Stays}
 use Rattle.statement_lowering.specs.Views.{known_after}
 
-other_locals : (kind : Integer) (scopes : List Scope) (locals : List LocalTree) → others (with_locals kind scopes locals) ≡ others scopes
+other_locals : (kind : Integer) (scopes : List Scope) (locals : List LocalTree)
+    → others (with_locals kind scopes locals) ≡ others scopes
 other_locals kind scopes [] = refl
 other_locals kind [] (local ∷ locals) = other_locals kind (with_local kind [] local) locals
 other_locals kind (scope ∷ scopes) (local ∷ locals) = other_locals kind (with_local kind (scope ∷ scopes) local) locals

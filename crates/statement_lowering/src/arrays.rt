@@ -21,7 +21,8 @@ use std::alloc::AllocError;
 
 // A constant as an expression, with its minus.
 fn constant_value(code: Code<'_, '_>, constant: Constant) -> Result<Term, AllocError>
-    ensures { IfOk result (λ term. alf.expression_of term ≡ laws.constant_value (program_in code.entry.table.now) constant) }
+    ensures { IfOk result
+        (λ term. alf.expression_of term ≡ laws.constant_value (program_in code.entry.table.now) constant) }
 {
     let number = constant_of(code.table.words().worth_at(constant.token));
     if constant.minus {
@@ -33,7 +34,8 @@ fn constant_value(code: Code<'_, '_>, constant: Constant) -> Result<Term, AllocE
 
 // The first of the constants, or 0.
 fn first_element(code: Code<'_, '_>, constants: &[Constant]) -> Result<Term, AllocError>
-    ensures { IfOk result (λ term. alf.expression_of term ≡ laws.first_element (program_in code.entry.table.now) constants.now) }
+    ensures { IfOk result
+        (λ term. alf.expression_of term ≡ laws.first_element (program_in code.entry.table.now) constants.now) }
 {
     match constants.split_first() {
         Some((constant, _)) => constant_value(code, *constant),
@@ -62,7 +64,9 @@ fn put_elements(
     constants: &[Constant],
 ) -> Result<(), AllocError>
     requires few { count ≤ most_elements }
-    ensures { OnOk result (Makes items.old.items items.new.items (laws.element_items (program_in code.entry.table.now) name.now kind 0 count constants.now)) }
+    ensures { OnOk result
+        (Makes items.old.items items.new.items
+        (laws.element_items (program_in code.entry.table.now) name.now kind 0 count constants.now)) }
 {
     let mut left = count;
     let mut offset: u32 = 0;
@@ -99,7 +103,10 @@ pub fn put_array(
     firsts: &Option<Vec<Constant>>,
 ) -> Result<(), AllocError>
     requires few { count_at (unit_of code.table.now).words size ≤ most_elements }
-    ensures { OnOk result (Makes items.old.items items.new.items (laws.array_items (program_in code.entry.table.now) kind name.now size (option_map (λ constants. constants.items) firsts.now))) }
+    ensures { OnOk result
+        (Makes items.old.items items.new.items
+        (laws.array_items (program_in code.entry.table.now) kind name.now size
+        (option_map (λ constants. constants.items) firsts.now))) }
 {
     match firsts {
         Some(constants) => {

@@ -6,7 +6,8 @@ ghost use Rattle.c_unit.specs.Units.{unit_of};
 ghost use Rattle.c_scopes.specs.Views.{entered, left};
 ghost use Rattle.c_lowered.specs.Statements as laws;
 ghost use Rattle.condition_lowering.specs.Views.{Makes, within_of};
-ghost use Rattle.statement_lowering.specs.Braces.{HasPlace, after_row, around_row, before_row, close_of, labels_at_row, next_place, place_items, place_of};
+ghost use Rattle.statement_lowering.specs.Braces.{HasPlace, after_row, around_row, before_row, close_of, labels_at_row};
+ghost use Rattle.statement_lowering.specs.Braces.{next_place, place_items, place_of};
 ghost use Rattle.statement_lowering.specs.Views.{around_of};
 
 use crate::context::Targets;
@@ -45,7 +46,9 @@ pub fn put_place(
     place: Option<u64>,
 ) -> Result<Option<u64>, AllocError>
     requires { HasPlace (next_place (statement_of statement.now) place) }
-    ensures items { OnOk result (Makes items.old.items items.new.items (place_items (within_of code.entry) (statement_of statement.now) place)) }
+    ensures items { OnOk result
+        (Makes items.old.items items.new.items
+        (place_items (within_of code.entry) (statement_of statement.now) place)) }
     ensures next { IfOk result (λ next. next ≡ next_place (statement_of statement.now) place) }
 {
     match place {
@@ -71,12 +74,19 @@ fn open_switch(
 ) -> Result<Opened, AllocError>
     requires words { (unit_of code.table.now).words ≡ scopes.now.words }
     requires few { labels + laws.cases_in (statements_of (map statement_of row.now)) + 1 < 2 ^ 64 }
-    ensures items { OnOk result (Makes items.old.items items.new.items (λ rest. laws.switch_item (within_of code.entry) scopes.now.scopes (expression_of value.now) (statements_of (map statement_of row.now)) labels (labels + laws.cases_in (statements_of (map statement_of row.now))) ∷ rest)) }
-    ensures labels { IfOk result (λ opened. opened.labels ≡ labels + laws.cases_in (statements_of (map statement_of row.now)) + 1) }
-    ensures leave { IfOk result (λ opened. opened.targets.leave ≡ Some (labels + laws.cases_in (statements_of (map statement_of row.now)))) }
+    ensures items { OnOk result
+        (Makes items.old.items items.new.items
+        (λ rest. laws.switch_item (within_of code.entry) scopes.now.scopes (expression_of value.now)
+        (statements_of (map statement_of row.now)) labels
+        (labels + laws.cases_in (statements_of (map statement_of row.now))) ∷ rest)) }
+    ensures labels { IfOk result
+        (λ opened. opened.labels ≡ labels + laws.cases_in (statements_of (map statement_of row.now)) + 1) }
+    ensures leave { IfOk result
+        (λ opened. opened.targets.leave ≡ Some (labels + laws.cases_in (statements_of (map statement_of row.now)))) }
     ensures again { IfOk result (λ opened. opened.targets.again ≡ targets.again) }
     ensures place { IfOk result (λ opened. opened.place ≡ Some labels) }
-    ensures close { IfOk result (λ opened. opened.close ≡ Some (labels + laws.cases_in (statements_of (map statement_of row.now)))) }
+    ensures close { IfOk result
+        (λ opened. opened.close ≡ Some (labels + laws.cases_in (statements_of (map statement_of row.now)))) }
 {
     let end = labels + cases_in(row);
     let inner = end + 1;
@@ -104,11 +114,19 @@ fn open(
 ) -> Result<Opened, AllocError>
     requires words { (unit_of code.table.now).words ≡ scopes.now.words }
     requires few { labels_at_row braces (statements_of (map statement_of row.now)) labels < 2 ^ 64 }
-    ensures items { OnOk result (Makes items.old.items items.new.items (before_row (within_of code.entry) scopes.now.scopes braces.entry (statements_of (map statement_of row.now)) labels)) }
-    ensures labels { IfOk result (λ opened. opened.labels ≡ labels_at_row braces.entry (statements_of (map statement_of row.now)) labels) }
-    ensures targets { IfOk result (λ opened. around_of code.entry opened.targets ≡ around_row (within_of code.entry) (around_of code.entry targets) braces.entry (statements_of (map statement_of row.now)) labels) }
+    ensures items { OnOk result
+        (Makes items.old.items items.new.items
+        (before_row (within_of code.entry) scopes.now.scopes braces.entry (statements_of (map statement_of row.now))
+        labels)) }
+    ensures labels { IfOk result
+        (λ opened. opened.labels ≡ labels_at_row braces.entry (statements_of (map statement_of row.now)) labels) }
+    ensures targets { IfOk result
+        (λ opened. around_of code.entry opened.targets
+        ≡ around_row (within_of code.entry) (around_of code.entry targets) braces.entry
+        (statements_of (map statement_of row.now)) labels) }
     ensures place { IfOk result (λ opened. opened.place ≡ place_of braces.entry labels) }
-    ensures close { IfOk result (λ opened. opened.close ≡ close_of braces.entry (statements_of (map statement_of row.now)) labels) }
+    ensures close { IfOk result
+        (λ opened. opened.close ≡ close_of braces.entry (statements_of (map statement_of row.now)) labels) }
 {
     match braces {
         Braces::Block => Ok(Opened {
@@ -133,11 +151,19 @@ pub fn open_row(
 ) -> Result<Opened, AllocError>
     requires words { (unit_of code.table.now).words ≡ scopes.old.words }
     requires few { labels_at_row braces (statements_of (map statement_of row.now)) labels < 2 ^ 64 }
-    ensures items { OnOk result (Makes items.old.items items.new.items (before_row (within_of code.entry) scopes.old.scopes braces.entry (statements_of (map statement_of row.now)) labels)) }
-    ensures labels { IfOk result (λ opened. opened.labels ≡ labels_at_row braces.entry (statements_of (map statement_of row.now)) labels) }
-    ensures targets { IfOk result (λ opened. around_of code.entry opened.targets ≡ around_row (within_of code.entry) (around_of code.entry targets) braces.entry (statements_of (map statement_of row.now)) labels) }
+    ensures items { OnOk result
+        (Makes items.old.items items.new.items
+        (before_row (within_of code.entry) scopes.old.scopes braces.entry (statements_of (map statement_of row.now))
+        labels)) }
+    ensures labels { IfOk result
+        (λ opened. opened.labels ≡ labels_at_row braces.entry (statements_of (map statement_of row.now)) labels) }
+    ensures targets { IfOk result
+        (λ opened. around_of code.entry opened.targets
+        ≡ around_row (within_of code.entry) (around_of code.entry targets) braces.entry
+        (statements_of (map statement_of row.now)) labels) }
     ensures place { IfOk result (λ opened. opened.place ≡ place_of braces.entry labels) }
-    ensures close { IfOk result (λ opened. opened.close ≡ close_of braces.entry (statements_of (map statement_of row.now)) labels) }
+    ensures close { IfOk result
+        (λ opened. opened.close ≡ close_of braces.entry (statements_of (map statement_of row.now)) labels) }
     ensures known { OnOk result (scopes.new ≡ entered scopes.old) }
 {
     let opened = open(code, scopes, items, targets, labels, braces, row)?;

@@ -38,7 +38,9 @@ fn argument(
     parameters: &[Parameter],
 ) -> Result<Term, AllocError>
     requires { (unit_of code.table.now).words ≡ scopes.now.words }
-    ensures { IfOk result (λ term. alf.expression_of term ≡ parts.argument_of (program_in code.entry.table.now) scopes.now.scopes (expression_of e.now) parameters.now) }
+    ensures { IfOk result
+        (λ term. alf.expression_of term
+        ≡ parts.argument_of (program_in code.entry.table.now) scopes.now.scopes (expression_of e.now) parameters.now) }
 {
     let value = value_of(code.alloc, code.table, scopes, e)?;
     let value = value.value;
@@ -60,7 +62,10 @@ fn arguments(
     parameters: &[Parameter],
 ) -> Result<Vec<Term>, AllocError>
     requires { (unit_of code.table.now).words ≡ scopes.now.words }
-    ensures { IfOk result (λ terms. map alf.expression_of terms.items ≡ laws.arguments (program_in code.entry.table.now) scopes.now.scopes (map expression_of given.now) parameters.now) }
+    ensures { IfOk result
+        (λ terms. map alf.expression_of terms.items
+        ≡ laws.arguments (program_in code.entry.table.now) scopes.now.scopes (map expression_of given.now)
+        parameters.now) }
 {
     let mut terms = Vec::new(code.alloc);
     let mut taken = parameters;
@@ -86,7 +91,8 @@ fn others_of(parameters: &[Parameter]) -> &[Parameter]
 
 // The name of the frame of the result of the function's call of this number.
 fn call_name(code: Code<'_, '_>, number: u64) -> Result<Name, AllocError>
-    ensures { IfOk result (λ name. name ≡ names.call_name (program_in code.entry.table.now) code.entry.function number) }
+    ensures { IfOk result
+        (λ name. name ≡ names.call_name (program_in code.entry.table.now) code.entry.function number) }
 {
     numbered_name(
         code.alloc,
@@ -102,7 +108,9 @@ fn result_frame(
     given: Outcome,
     number: u64,
 ) -> Result<Option<(Name, u32)>, AllocError>
-    ensures { IfOk result (λ frame. frame ≡ laws.result_frame given (names.call_name (program_in code.entry.table.now) code.entry.function number)) }
+    ensures { IfOk result
+        (λ frame. frame
+        ≡ laws.result_frame given (names.call_name (program_in code.entry.table.now) code.entry.function number)) }
 {
     match given {
         Outcome::Nothing => Ok(None),
@@ -122,7 +130,9 @@ pub fn put_call(
     number: u64,
 ) -> Result<(), AllocError>
     requires { (unit_of code.table.now).words ≡ scopes.now.words }
-    ensures { OnOk result (Makes items.old.items items.new.items (laws.call_items (within_of code.entry) scopes.now.scopes (call_of call.now) number)) }
+    ensures { OnOk result
+        (Makes items.old.items items.new.items
+        (laws.call_items (within_of code.entry) scopes.now.scopes (call_of call.now) number)) }
 {
     let name = Name::new(code.alloc, code.table.words().text_at(call.name))?;
     let terms = arguments(
@@ -138,7 +148,8 @@ pub fn put_call(
 
 /// What a call of this number gave, as an expression has it.
 pub fn call_value(code: Code<'_, '_>, call: &Call, number: u64) -> Result<Term, AllocError>
-    ensures { IfOk result (λ term. alf.expression_of term ≡ laws.call_value (within_of code.entry) (call_of call.now) number) }
+    ensures { IfOk result
+        (λ term. alf.expression_of term ≡ laws.call_value (within_of code.entry) (call_of call.now) number) }
 {
     match code.table.result_of(call.name) {
         Outcome::Nothing => Ok(whole(0)),

@@ -7,7 +7,8 @@ ghost use Rattle.object_layout.specs.Views.{program_in};
 ghost use Rattle.condition_lowering.specs.declared.code.Code as codes;
 ghost use Rattle.condition_lowering.specs.Views.{Makes, within_of};
 ghost use Rattle.statement_lowering.specs.Views.{around_of};
-ghost use Rattle.statement_lowering.specs.Controls.{after_part, around_part, before_part, calls_at, labels_after, labels_at, last_label};
+ghost use Rattle.statement_lowering.specs.Controls.{after_part, around_part, before_part, calls_at, labels_after};
+ghost use Rattle.statement_lowering.specs.Controls.{labels_at, last_label};
 
 use crate::context::{Next, Targets};
 use crate::loops::{begin_for, begin_while, calls_if, end_do, end_for, end_while, loop_targets};
@@ -50,7 +51,9 @@ fn put_before(
 ) -> Result<u64, AllocError>
     requires words { (unit_of code.table.now).words ≡ scopes.now.words }
     requires few { labels_at control labels < 2 ^ 64 }
-    ensures items { OnOk result (Makes items.old.items items.new.items (before_part (within_of code.entry) scopes.now.scopes control.entry labels)) }
+    ensures items { OnOk result
+        (Makes items.old.items items.new.items
+        (before_part (within_of code.entry) scopes.now.scopes control.entry labels)) }
     ensures labels { IfOk result (λ inner. inner ≡ labels_at control.entry labels) }
 {
     match control {
@@ -85,7 +88,8 @@ fn first_call(table: &Table<'_>, control: Control<'_>, calls: u64) -> u64
 // Where `break` and `continue` lead in the part.
 fn targets_in(control: Control<'_>, around: Targets, labels: u64) -> Targets
     requires { labels_at control labels < 2 ^ 64 }
-    ensures { (code : codes.Code) → around_of code result ≡ around_part (within_of code) (around_of code around) control.entry labels }
+    ensures { (code : codes.Code)
+        → around_of code result ≡ around_part (within_of code) (around_of code around) control.entry labels }
 {
     match control {
         Control::If(_) => around,
@@ -120,10 +124,15 @@ pub fn begin_part(
     requires words { (unit_of code.table.now).words ≡ scopes.old.words }
     requires labels { labels_at control next.labels < 2 ^ 64 }
     requires calls { calls_at (program_in code.table.now) control next.calls < 2 ^ 64 }
-    ensures items { OnOk result (Makes items.old.items items.new.items (before_part (within_of code.entry) scopes.old.scopes control.entry next.labels)) }
+    ensures items { OnOk result
+        (Makes items.old.items items.new.items
+        (before_part (within_of code.entry) scopes.old.scopes control.entry next.labels)) }
     ensures labels { IfOk result (λ begun. begun.next.labels ≡ labels_at control.entry next.labels) }
-    ensures calls { IfOk result (λ begun. begun.next.calls ≡ calls_at (program_in code.entry.table.now) control.entry next.calls) }
-    ensures targets { IfOk result (λ begun. around_of code.entry begun.targets ≡ around_part (within_of code.entry) (around_of code.entry targets) control.entry next.labels) }
+    ensures calls { IfOk result
+        (λ begun. begun.next.calls ≡ calls_at (program_in code.entry.table.now) control.entry next.calls) }
+    ensures targets { IfOk result
+        (λ begun. around_of code.entry begun.targets
+        ≡ around_part (within_of code.entry) (around_of code.entry targets) control.entry next.labels) }
     ensures known { OnOk result (scopes.new ≡ entered scopes.old) }
 {
     let labels = put_before(code, scopes, items, control, next.labels)?;
@@ -148,7 +157,9 @@ fn put_after(
     requires words { (unit_of code.table.now).words ≡ scopes.now.words }
     requires own { last_label control first.labels < 2 ^ 64 }
     requires few { labels_after control labels < 2 ^ 64 }
-    ensures items { OnOk result (Makes items.old.items items.new.items (after_part (within_of code.entry) scopes.now.scopes control.entry first.labels first.calls labels)) }
+    ensures items { OnOk result
+        (Makes items.old.items items.new.items
+        (after_part (within_of code.entry) scopes.now.scopes control.entry first.labels first.calls labels)) }
     ensures labels { IfOk result (λ after. after ≡ labels_after control.entry labels) }
 {
     match control {
@@ -188,7 +199,10 @@ pub fn end_part(
     requires words { (unit_of code.table.now).words ≡ scopes.old.words }
     requires own { last_label control first.labels < 2 ^ 64 }
     requires few { labels_after control after.labels < 2 ^ 64 }
-    ensures items { OnOk result (Makes items.old.items items.new.items (after_part (within_of code.entry) (left scopes.old).scopes control.entry first.labels first.calls after.labels)) }
+    ensures items { OnOk result
+        (Makes items.old.items items.new.items
+        (after_part (within_of code.entry) (left scopes.old).scopes control.entry first.labels first.calls
+        after.labels)) }
     ensures labels { IfOk result (λ next. next.labels ≡ labels_after control.entry after.labels) }
     ensures calls { IfOk result (λ next. next.calls ≡ after.calls) }
     ensures known { OnOk result (scopes.new ≡ left scopes.old) }

@@ -51,7 +51,10 @@ fn put_update(
     right: Term,
 ) -> Result<(), AllocError>
     requires { (unit_of code.table.now).words ≡ scopes.now.words }
-    ensures { OnOk result (Makes items.old.items items.new.items (λ rest. laws.update (program_in code.entry.table.now) scopes.now.scopes (expression_of to.now) op kind (alf.expression_of right) ∷ rest)) }
+    ensures { OnOk result
+        (Makes items.old.items items.new.items
+        (λ rest. laws.update (program_in code.entry.table.now) scopes.now.scopes (expression_of to.now) op kind
+        (alf.expression_of right) ∷ rest)) }
 {
     let left = value_of(code.alloc, code.table, scopes, to)?;
     let at = address_of(code.alloc, code.table, scopes, to)?;
@@ -71,7 +74,9 @@ pub fn put_effect(
     number: u64,
 ) -> Result<(), AllocError>
     requires { (unit_of code.table.now).words ≡ scopes.now.words }
-    ensures { OnOk result (Makes items.old.items items.new.items (laws.effect_items (within_of code.entry) scopes.now.scopes (effect_of effect.now) number)) }
+    ensures { OnOk result
+        (Makes items.old.items items.new.items
+        (laws.effect_items (within_of code.entry) scopes.now.scopes (effect_of effect.now) number)) }
 {
     match effect {
         Effect::Assign(to, _, value) => {

@@ -30,7 +30,8 @@ pub fn put_leaving(
     items: &mut Vec<Item>,
     number: Option<u64>,
 ) -> Result<(), AllocError>
-    ensures { OnOk result (Makes items.old.items items.new.items (λ rest. Do (alf.Jump (target (within_of code.entry) number)) ∷ rest)) }
+    ensures { OnOk result
+        (Makes items.old.items items.new.items (λ rest. Do (alf.Jump (target (within_of code.entry) number)) ∷ rest)) }
 {
     let name = target_name(code, number)?;
     put_act(items, Act::Jump(name))?;
@@ -45,7 +46,9 @@ pub fn put_assign(
     at: Term,
     value: Term,
 ) -> Result<(), AllocError>
-    ensures { OnOk result (Makes items.old.items items.new.items (λ rest. effects.assign kind (expression_of at) (expression_of value) ∷ rest)) }
+    ensures { OnOk result
+        (Makes items.old.items items.new.items
+        (λ rest. effects.assign kind (expression_of at) (expression_of value) ∷ rest)) }
 {
     let value = cut_to(code.alloc, kind, value)?;
     put_act(items, Act::Store(at, value))?;

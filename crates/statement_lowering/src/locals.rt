@@ -58,7 +58,10 @@ fn put_first(
     number: u64,
 ) -> Result<(), AllocError>
     requires { (unit_of code.table.now).words ≡ scopes.now.words }
-    ensures { OnOk result (Makes items.old.items items.new.items (laws.first_items (within_of code.entry) scopes.now.scopes kind name.now (option_map value_of first.now) number)) }
+    ensures { OnOk result
+        (Makes items.old.items items.new.items
+        (laws.first_items (within_of code.entry) scopes.now.scopes kind name.now (option_map value_of first.now)
+        number)) }
 {
     match first {
         Some(value) => {
@@ -83,7 +86,9 @@ fn put_shape(
 ) -> Result<(), AllocError>
     requires words { (unit_of code.table.now).words ≡ scopes.now.words }
     requires elements { elements_of (unit_of code.table.now).words (local_shape_of shape.now) ≤ most_elements }
-    ensures { OnOk result (Makes items.old.items items.new.items (laws.shape_items (within_of code.entry) scopes.now.scopes kind name.now (local_shape_of shape.now) number)) }
+    ensures { OnOk result
+        (Makes items.old.items items.new.items
+        (laws.shape_items (within_of code.entry) scopes.now.scopes kind name.now (local_shape_of shape.now) number)) }
 {
     match shape {
         LocalShape::Integer(first) => put_first(
@@ -121,8 +126,11 @@ pub fn put_locals(
     requires words { (unit_of code.table.now).words ≡ scopes.old.words }
     requires few { number + laws.calls_in_locals (program_in code.table.now) (map local_of locals.now) < 2 ^ 64 }
     requires elements { elements_of_all (unit_of code.table.now).words (map local_of locals.now) ≤ most_elements }
-    ensures items { OnOk result (Makes items.old.items items.new.items (laws.locals_items (within_of code.entry) kind scopes.old.scopes (map local_of locals.now) number)) }
-    ensures calls { IfOk result (λ after. after ≡ number + laws.calls_in_locals (program_in code.entry.table.now) (map local_of locals.now)) }
+    ensures items { OnOk result
+        (Makes items.old.items items.new.items
+        (laws.locals_items (within_of code.entry) kind scopes.old.scopes (map local_of locals.now) number)) }
+    ensures calls { IfOk result
+        (λ after. after ≡ number + laws.calls_in_locals (program_in code.entry.table.now) (map local_of locals.now)) }
     ensures known { OnOk result (scopes.new ≡ with_declared kind scopes.old (map local_of locals.now)) }
 {
     let mut calls = number;

@@ -39,9 +39,14 @@ pub fn begin_while(
 ) -> Result<u64, AllocError>
     requires words { (unit_of code.table.now).words ≡ scopes.now.words }
     requires few { 3 + labels + conditions.condition_labels (expression_of condition.now) < 2 ^ 64 }
-    ensures items { OnOk result (Makes items.old.items items.new.items (λ rest. conditions.label_item (within_of code.entry) labels ∷ conditions.condition_items (within_of code.entry) scopes.now.scopes (expression_of condition.now) (3 + labels) (conditions.label (within_of code.entry) (1 + labels)) (conditions.label (within_of code.entry) (2 + labels))
+    ensures items { OnOk result
+        (Makes items.old.items items.new.items
+        (λ rest. conditions.label_item (within_of code.entry) labels
+        ∷ conditions.condition_items (within_of code.entry) scopes.now.scopes (expression_of condition.now) (3 + labels)
+        (conditions.label (within_of code.entry) (1 + labels)) (conditions.label (within_of code.entry) (2 + labels))
         (conditions.label_item (within_of code.entry) (1 + labels) ∷ rest))) }
-    ensures labels { IfOk result (λ after. after ≡ 3 + labels + conditions.condition_labels (expression_of condition.now)) }
+    ensures labels { IfOk result
+        (λ after. after ≡ 3 + labels + conditions.condition_labels (expression_of condition.now)) }
 {
     let begin = 1 + labels;
     let end = 2 + labels;
@@ -54,7 +59,10 @@ pub fn begin_while(
 /// Puts what stands after the body of a `while`.
 pub fn end_while(code: Code<'_, '_>, items: &mut Vec<Item>, labels: u64) -> Result<(), AllocError>
     requires { 2 + labels < 2 ^ 64 }
-    ensures { OnOk result (Makes items.old.items items.new.items (λ rest. conditions.jump (within_of code.entry) labels ∷ conditions.label_item (within_of code.entry) (2 + labels) ∷ rest)) }
+    ensures { OnOk result
+        (Makes items.old.items items.new.items
+        (λ rest. conditions.jump (within_of code.entry) labels
+        ∷ conditions.label_item (within_of code.entry) (2 + labels) ∷ rest)) }
 {
     let end = 2 + labels;
     put_jump(code, items, labels)?;
@@ -74,7 +82,11 @@ pub fn end_do(
     requires words { (unit_of code.table.now).words ≡ scopes.now.words }
     requires own { 2 + labels < 2 ^ 64 }
     requires few { next + conditions.condition_labels (expression_of condition.now) < 2 ^ 64 }
-    ensures items { OnOk result (Makes items.old.items items.new.items (λ rest. conditions.label_item (within_of code.entry) (1 + labels) ∷ conditions.condition_items (within_of code.entry) scopes.now.scopes (expression_of condition.now) next (conditions.label (within_of code.entry) labels) (conditions.label (within_of code.entry) (2 + labels))
+    ensures items { OnOk result
+        (Makes items.old.items items.new.items
+        (λ rest. conditions.label_item (within_of code.entry) (1 + labels)
+        ∷ conditions.condition_items (within_of code.entry) scopes.now.scopes (expression_of condition.now) next
+        (conditions.label (within_of code.entry) labels) (conditions.label (within_of code.entry) (2 + labels))
         (conditions.label_item (within_of code.entry) (2 + labels) ∷ rest))) }
     ensures labels { IfOk result (λ after. after ≡ next + conditions.condition_labels (expression_of condition.now)) }
 {
@@ -108,7 +120,10 @@ fn put_condition_if(
 ) -> Result<u64, AllocError>
     requires words { (unit_of code.table.now).words ≡ scopes.now.words }
     requires few { next + laws.labels_if (option_map expression_of condition.now) < 2 ^ 64 }
-    ensures items { OnOk result (Makes items.old.items items.new.items (laws.condition_if (within_of code.entry) scopes.now.scopes (option_map expression_of condition.now) next held failed)) }
+    ensures items { OnOk result
+        (Makes items.old.items items.new.items
+        (laws.condition_if (within_of code.entry) scopes.now.scopes (option_map expression_of condition.now) next held
+        failed)) }
     ensures labels { IfOk result (λ after. after ≡ next + laws.labels_if (option_map expression_of condition.now)) }
 {
     match condition {
@@ -141,7 +156,9 @@ fn put_effect_if(
     number: u64,
 ) -> Result<(), AllocError>
     requires { (unit_of code.table.now).words ≡ scopes.now.words }
-    ensures { OnOk result (Makes items.old.items items.new.items (laws.effect_if (within_of code.entry) scopes.now.scopes (option_map effect_of effect.now) number)) }
+    ensures { OnOk result
+        (Makes items.old.items items.new.items
+        (laws.effect_if (within_of code.entry) scopes.now.scopes (option_map effect_of effect.now) number)) }
 {
     match effect {
         None => Ok(()),
@@ -169,9 +186,14 @@ pub fn begin_for(
 ) -> Result<u64, AllocError>
     requires words { (unit_of code.table.now).words ≡ scopes.now.words }
     requires few { 4 + labels + laws.labels_if (option_map expression_of condition.now) < 2 ^ 64 }
-    ensures items { OnOk result (Makes items.old.items items.new.items (λ rest. conditions.label_item (within_of code.entry) labels ∷ laws.condition_if (within_of code.entry) scopes.now.scopes (option_map expression_of condition.now) (4 + labels) (1 + labels) (3 + labels)
+    ensures items { OnOk result
+        (Makes items.old.items items.new.items
+        (λ rest. conditions.label_item (within_of code.entry) labels
+        ∷ laws.condition_if (within_of code.entry) scopes.now.scopes (option_map expression_of condition.now)
+        (4 + labels) (1 + labels) (3 + labels)
         (conditions.label_item (within_of code.entry) (1 + labels) ∷ rest))) }
-    ensures labels { IfOk result (λ after. after ≡ 4 + labels + laws.labels_if (option_map expression_of condition.now)) }
+    ensures labels { IfOk result
+        (λ after. after ≡ 4 + labels + laws.labels_if (option_map expression_of condition.now)) }
 {
     let begin = 1 + labels;
     let end = 3 + labels;
@@ -192,8 +214,12 @@ pub fn end_for(
 ) -> Result<(), AllocError>
     requires words { (unit_of code.table.now).words ≡ scopes.now.words }
     requires few { 3 + first.labels < 2 ^ 64 }
-    ensures { OnOk result (Makes items.old.items items.new.items (λ rest. conditions.label_item (within_of code.entry) (2 + first.labels) ∷ laws.effect_if (within_of code.entry) scopes.now.scopes (option_map effect_of last.now) first.calls
-        (conditions.jump (within_of code.entry) first.labels ∷ conditions.label_item (within_of code.entry) (3 + first.labels) ∷ rest))) }
+    ensures { OnOk result
+        (Makes items.old.items items.new.items
+        (λ rest. conditions.label_item (within_of code.entry) (2 + first.labels)
+        ∷ laws.effect_if (within_of code.entry) scopes.now.scopes (option_map effect_of last.now) first.calls
+        (conditions.jump (within_of code.entry) first.labels
+        ∷ conditions.label_item (within_of code.entry) (3 + first.labels) ∷ rest))) }
 {
     let further = 2 + first.labels;
     let end = 3 + first.labels;

@@ -34,10 +34,15 @@ fn put_returned(
     value: &Option<Value>,
 ) -> Result<Next, AllocError>
     requires words { (unit_of code.table.now).words ≡ scopes.now.words }
-    requires few { next.calls + laws.calls_in_returned (program_in code.table.now) (option_map value_of value.now) < 2 ^ 64 }
-    ensures items { OnOk result (Makes items.old.items items.new.items (laws.return_items (within_of code.entry) scopes.now.scopes (option_map value_of value.now) next.calls)) }
+    requires few { next.calls + laws.calls_in_returned (program_in code.table.now) (option_map value_of value.now)
+        < 2 ^ 64 }
+    ensures items { OnOk result
+        (Makes items.old.items items.new.items
+        (laws.return_items (within_of code.entry) scopes.now.scopes (option_map value_of value.now) next.calls)) }
     ensures labels { IfOk result (λ after. after.labels ≡ next.labels) }
-    ensures calls { IfOk result (λ after. after.calls ≡ next.calls + laws.calls_in_returned (program_in code.entry.table.now) (option_map value_of value.now)) }
+    ensures calls { IfOk result
+        (λ after. after.calls
+        ≡ next.calls + laws.calls_in_returned (program_in code.entry.table.now) (option_map value_of value.now)) }
 {
     put_return(code, scopes, items, value, next.calls)?;
     let calls = calls_in_first(code.table, value) + next.calls;
@@ -57,9 +62,13 @@ fn put_done(
 ) -> Result<Next, AllocError>
     requires words { (unit_of code.table.now).words ≡ scopes.now.words }
     requires few { next.calls + effects.calls_in_effect (program_in code.table.now) (effect_of effect.now) < 2 ^ 64 }
-    ensures items { OnOk result (Makes items.old.items items.new.items (effects.effect_items (within_of code.entry) scopes.now.scopes (effect_of effect.now) next.calls)) }
+    ensures items { OnOk result
+        (Makes items.old.items items.new.items
+        (effects.effect_items (within_of code.entry) scopes.now.scopes (effect_of effect.now) next.calls)) }
     ensures labels { IfOk result (λ after. after.labels ≡ next.labels) }
-    ensures calls { IfOk result (λ after. after.calls ≡ next.calls + effects.calls_in_effect (program_in code.entry.table.now) (effect_of effect.now)) }
+    ensures calls { IfOk result
+        (λ after. after.calls
+        ≡ next.calls + effects.calls_in_effect (program_in code.entry.table.now) (effect_of effect.now)) }
 {
     put_effect(code, scopes, items, effect, next.calls)?;
     let calls = calls_in_effect(code.table, effect) + next.calls;
@@ -81,9 +90,13 @@ fn put_declared(
     requires words { (unit_of code.table.now).words ≡ scopes.old.words }
     requires few { next.calls + effects.calls_in_locals (program_in code.table.now) (map local_of locals.now) < 2 ^ 64 }
     requires elements { elements_of_all (unit_of code.table.now).words (map local_of locals.now) ≤ most_elements }
-    ensures items { OnOk result (Makes items.old.items items.new.items (effects.locals_items (within_of code.entry) kind scopes.old.scopes (map local_of locals.now) next.calls)) }
+    ensures items { OnOk result
+        (Makes items.old.items items.new.items
+        (effects.locals_items (within_of code.entry) kind scopes.old.scopes (map local_of locals.now) next.calls)) }
     ensures labels { IfOk result (λ after. after.labels ≡ next.labels) }
-    ensures calls { IfOk result (λ after. after.calls ≡ next.calls + effects.calls_in_locals (program_in code.entry.table.now) (map local_of locals.now)) }
+    ensures calls { IfOk result
+        (λ after. after.calls
+        ≡ next.calls + effects.calls_in_locals (program_in code.entry.table.now) (map local_of locals.now)) }
     ensures known { OnOk result (scopes.new ≡ with_declared kind scopes.old (map local_of locals.now)) }
 {
     let calls = put_locals(code, scopes, items, kind, locals, next.calls)?;
@@ -106,9 +119,14 @@ pub fn put_plain(
     requires few { next.calls + laws.calls_in (program_in code.table.now) (statement_of statement.now) < 2 ^ 64 }
     requires plain { is_plain (statement_of statement.now) ≡ true }
     requires elements { elements_in (unit_of code.table.now).words (statement_of statement.now) ≤ most_elements }
-    ensures items { OnOk result (Makes items.old.items items.new.items (laws.items_of (within_of code.entry) scopes.old.scopes (statement_of statement.now) next.labels next.calls (around_of code.entry targets))) }
+    ensures items { OnOk result
+        (Makes items.old.items items.new.items
+        (laws.items_of (within_of code.entry) scopes.old.scopes (statement_of statement.now) next.labels next.calls
+        (around_of code.entry targets))) }
     ensures labels { IfOk result (λ after. after.labels ≡ next.labels + laws.labels_in (statement_of statement.now)) }
-    ensures calls { IfOk result (λ after. after.calls ≡ next.calls + laws.calls_in (program_in code.entry.table.now) (statement_of statement.now)) }
+    ensures calls { IfOk result
+        (λ after. after.calls
+        ≡ next.calls + laws.calls_in (program_in code.entry.table.now) (statement_of statement.now)) }
     ensures known { OnOk result (scopes.new ≡ known_after scopes.old (statement_of statement.now)) }
 {
     match statement {

@@ -37,7 +37,9 @@ pub fn put_return(
     number: u64,
 ) -> Result<(), AllocError>
     requires { (unit_of code.table.now).words ≡ scopes.now.words }
-    ensures { OnOk result (Makes items.old.items items.new.items (laws.return_items (within_of code.entry) scopes.now.scopes (option_map value_of value.now) number)) }
+    ensures { OnOk result
+        (Makes items.old.items items.new.items
+        (laws.return_items (within_of code.entry) scopes.now.scopes (option_map value_of value.now) number)) }
 {
     match value {
         Some(value) => {

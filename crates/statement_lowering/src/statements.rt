@@ -36,9 +36,14 @@ pub fn put_body(
 ) -> Result<(), AllocError>
     requires words { (unit_of code.table.now).words ≡ scopes.old.words }
     requires labels { laws.labels_in_all (statements_of (map statement_of body.now)) < 2 ^ 64 }
-    requires calls { laws.calls_in_all (program_in code.table.now) (statements_of (map statement_of body.now)) < 2 ^ 64 }
-    requires elements { all_elements_in (unit_of code.table.now).words (statements_of (map statement_of body.now)) ≤ most_elements }
-    ensures items { OnOk result (Makes items.old.items items.new.items (λ rest. laws.all_items_of (within_of code.entry) scopes.old.scopes (statements_of (map statement_of body.now)) 0 0 programs.nowhere (programs.last_return given ∷ rest))) }
+    requires calls { laws.calls_in_all (program_in code.table.now) (statements_of (map statement_of body.now))
+        < 2 ^ 64 }
+    requires elements { all_elements_in (unit_of code.table.now).words (statements_of (map statement_of body.now))
+        ≤ most_elements }
+    ensures items { OnOk result
+        (Makes items.old.items items.new.items
+        (λ rest. laws.all_items_of (within_of code.entry) scopes.old.scopes (statements_of (map statement_of body.now))
+        0 0 programs.nowhere (programs.last_return given ∷ rest))) }
     ensures stays { OnOk result (Stays scopes.old scopes.new) }
 {
     let nowhere = Targets {
@@ -67,12 +72,20 @@ fn put_row(
 ) -> Result<Next, AllocError>
     requires words { (unit_of code.table.now).words ≡ scopes.old.words }
     requires labels { next.labels + laws.labels_in_all (statements_of (map statement_of row.now)) < 2 ^ 64 }
-    requires calls { next.calls + laws.calls_in_all (program_in code.table.now) (statements_of (map statement_of row.now)) < 2 ^ 64 }
+    requires calls { next.calls
+        + laws.calls_in_all (program_in code.table.now) (statements_of (map statement_of row.now)) < 2 ^ 64 }
     requires places { HasPlaces place (statements_of (map statement_of row.now)) }
-    requires elements { all_elements_in (unit_of code.table.now).words (statements_of (map statement_of row.now)) ≤ most_elements }
-    ensures items { OnOk result (Makes items.old.items items.new.items (row_items (within_of code.entry) scopes.old.scopes (statements_of (map statement_of row.now)) place next.labels next.calls (around_of code.entry targets))) }
-    ensures labels { IfOk result (λ after. after.labels ≡ next.labels + laws.labels_in_all (statements_of (map statement_of row.now))) }
-    ensures calls { IfOk result (λ after. after.calls ≡ next.calls + laws.calls_in_all (program_in code.entry.table.now) (statements_of (map statement_of row.now))) }
+    requires elements { all_elements_in (unit_of code.table.now).words (statements_of (map statement_of row.now))
+        ≤ most_elements }
+    ensures items { OnOk result
+        (Makes items.old.items items.new.items
+        (row_items (within_of code.entry) scopes.old.scopes (statements_of (map statement_of row.now)) place next.labels
+        next.calls (around_of code.entry targets))) }
+    ensures labels { IfOk result
+        (λ after. after.labels ≡ next.labels + laws.labels_in_all (statements_of (map statement_of row.now))) }
+    ensures calls { IfOk result
+        (λ after. after.calls
+        ≡ next.calls + laws.calls_in_all (program_in code.entry.table.now) (statements_of (map statement_of row.now))) }
     ensures stays { OnOk result (Stays scopes.old scopes.new) }
 {
     let mut here = place;
@@ -97,12 +110,23 @@ fn put_braced(
     braces: Braces<'_>,
 ) -> Result<Next, AllocError>
     requires words { (unit_of code.table.now).words ≡ scopes.old.words }
-    requires labels { labels_at_row braces (statements_of (map statement_of row.now)) next.labels + laws.labels_in_all (statements_of (map statement_of row.now)) < 2 ^ 64 }
-    requires calls { next.calls + laws.calls_in_all (program_in code.table.now) (statements_of (map statement_of row.now)) < 2 ^ 64 }
-    requires elements { all_elements_in (unit_of code.table.now).words (statements_of (map statement_of row.now)) ≤ most_elements }
-    ensures items { OnOk result (Makes items.old.items items.new.items (braced_items (within_of code.entry) scopes.old.scopes braces.entry (statements_of (map statement_of row.now)) next.labels next.calls (around_of code.entry targets))) }
-    ensures labels { IfOk result (λ after. after.labels ≡ labels_at_row braces.entry (statements_of (map statement_of row.now)) next.labels + laws.labels_in_all (statements_of (map statement_of row.now))) }
-    ensures calls { IfOk result (λ after. after.calls ≡ next.calls + laws.calls_in_all (program_in code.entry.table.now) (statements_of (map statement_of row.now))) }
+    requires labels { labels_at_row braces (statements_of (map statement_of row.now)) next.labels
+        + laws.labels_in_all (statements_of (map statement_of row.now)) < 2 ^ 64 }
+    requires calls { next.calls
+        + laws.calls_in_all (program_in code.table.now) (statements_of (map statement_of row.now)) < 2 ^ 64 }
+    requires elements { all_elements_in (unit_of code.table.now).words (statements_of (map statement_of row.now))
+        ≤ most_elements }
+    ensures items { OnOk result
+        (Makes items.old.items items.new.items
+        (braced_items (within_of code.entry) scopes.old.scopes braces.entry (statements_of (map statement_of row.now))
+        next.labels next.calls (around_of code.entry targets))) }
+    ensures labels { IfOk result
+        (λ after. after.labels
+        ≡ labels_at_row braces.entry (statements_of (map statement_of row.now)) next.labels
+        + laws.labels_in_all (statements_of (map statement_of row.now))) }
+    ensures calls { IfOk result
+        (λ after. after.calls
+        ≡ next.calls + laws.calls_in_all (program_in code.entry.table.now) (statements_of (map statement_of row.now))) }
     ensures same { OnOk result (scopes.new ≡ scopes.old) }
 {
     let opened = open_row(code, scopes, items, targets, next.labels, braces, row)?;
@@ -137,12 +161,22 @@ fn put_controlled(
 ) -> Result<Next, AllocError>
     requires words { (unit_of code.table.now).words ≡ scopes.old.words }
     requires own { last_label control next.labels < 2 ^ 64 }
-    requires labels { labels_after control (labels_at control next.labels + laws.labels_in (statement_of part.now)) < 2 ^ 64 }
-    requires calls { calls_at (program_in code.table.now) control next.calls + laws.calls_in (program_in code.table.now) (statement_of part.now) < 2 ^ 64 }
+    requires labels { labels_after control (labels_at control next.labels + laws.labels_in (statement_of part.now))
+        < 2 ^ 64 }
+    requires calls { calls_at (program_in code.table.now) control next.calls
+        + laws.calls_in (program_in code.table.now) (statement_of part.now) < 2 ^ 64 }
     requires elements { elements_in (unit_of code.table.now).words (statement_of part.now) ≤ most_elements }
-    ensures items { OnOk result (Makes items.old.items items.new.items (control_items (within_of code.entry) scopes.old.scopes control.entry (statement_of part.now) next.labels next.calls (around_of code.entry targets))) }
-    ensures labels { IfOk result (λ after. after.labels ≡ labels_after control.entry (labels_at control.entry next.labels + laws.labels_in (statement_of part.now))) }
-    ensures calls { IfOk result (λ after. after.calls ≡ calls_at (program_in code.entry.table.now) control.entry next.calls + laws.calls_in (program_in code.entry.table.now) (statement_of part.now)) }
+    ensures items { OnOk result
+        (Makes items.old.items items.new.items
+        (control_items (within_of code.entry) scopes.old.scopes control.entry (statement_of part.now) next.labels
+        next.calls (around_of code.entry targets))) }
+    ensures labels { IfOk result
+        (λ after. after.labels
+        ≡ labels_after control.entry (labels_at control.entry next.labels + laws.labels_in (statement_of part.now))) }
+    ensures calls { IfOk result
+        (λ after. after.calls
+        ≡ calls_at (program_in code.entry.table.now) control.entry next.calls
+        + laws.calls_in (program_in code.entry.table.now) (statement_of part.now)) }
     ensures same { OnOk result (scopes.new ≡ scopes.old) }
 {
     let begun = begin_part(code, scopes, items, targets, next, control)?;
@@ -166,9 +200,14 @@ fn put_statement(
     requires labels { next.labels + laws.labels_in (statement_of statement.now) < 2 ^ 64 }
     requires calls { next.calls + laws.calls_in (program_in code.table.now) (statement_of statement.now) < 2 ^ 64 }
     requires elements { elements_in (unit_of code.table.now).words (statement_of statement.now) ≤ most_elements }
-    ensures items { OnOk result (Makes items.old.items items.new.items (laws.items_of (within_of code.entry) scopes.old.scopes (statement_of statement.now) next.labels next.calls (around_of code.entry targets))) }
+    ensures items { OnOk result
+        (Makes items.old.items items.new.items
+        (laws.items_of (within_of code.entry) scopes.old.scopes (statement_of statement.now) next.labels next.calls
+        (around_of code.entry targets))) }
     ensures labels { IfOk result (λ after. after.labels ≡ next.labels + laws.labels_in (statement_of statement.now)) }
-    ensures calls { IfOk result (λ after. after.calls ≡ next.calls + laws.calls_in (program_in code.entry.table.now) (statement_of statement.now)) }
+    ensures calls { IfOk result
+        (λ after. after.calls
+        ≡ next.calls + laws.calls_in (program_in code.entry.table.now) (statement_of statement.now)) }
     ensures known { OnOk result (scopes.new ≡ known_after scopes.old (statement_of statement.now)) }
 {
     match statement {

@@ -24,9 +24,14 @@ pub enum Mark {
 /// What a statement is to the switch in whose body it stands.
 pub fn mark_of(statement: &Stmt) -> Mark
     ensures count { laws.is_case (statement_of statement.now) ≡ labels_by result }
-    ensures targets { (within : Within) (i : Integer) (k : ℕ) (others : Statements) → laws.targets_in within i k (Then (statement_of statement.now) others) ≡ targets_by result within i k (laws.targets_in within i (labels_by result + k) others) }
-    ensures default { (within : Within) (k otherwise : ℕ) (others : Statements) → laws.default_in within k otherwise (Then (statement_of statement.now) others) ≡ default_by result (label within k) (laws.default_in within (labels_by result + k) otherwise others) }
-    ensures items { (within : Within) (k : ℕ) (items : List BodyItem) → laws.if_case within (statement_of statement.now) k items ≡ case_by result within k items }
+    ensures targets { (within : Within) (i : Integer) (k : ℕ) (others : Statements)
+        → laws.targets_in within i k (Then (statement_of statement.now) others)
+        ≡ targets_by result within i k (laws.targets_in within i (labels_by result + k) others) }
+    ensures default { (within : Within) (k otherwise : ℕ) (others : Statements)
+        → laws.default_in within k otherwise (Then (statement_of statement.now) others)
+        ≡ default_by result (label within k) (laws.default_in within (labels_by result + k) otherwise others) }
+    ensures items { (within : Within) (k : ℕ) (items : List BodyItem)
+        → laws.if_case within (statement_of statement.now) k items ≡ case_by result within k items }
 {
     match statement {
         Stmt::Case(_, constant) => Mark::Case(*constant),

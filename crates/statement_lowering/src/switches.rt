@@ -67,7 +67,10 @@ fn target(
     constant: Constant,
     label: u64,
 ) -> Result<(Num, Name), AllocError>
-    ensures { IfOk result (λ target. target ≡ laws.target (within_of code.entry) kind (checks.label_of (unit_of code.entry.table.now).words constant) label) }
+    ensures { IfOk result
+        (λ target. target
+        ≡ laws.target (within_of code.entry) kind (checks.label_of (unit_of code.entry.table.now).words constant)
+        label) }
 {
     let num = Num {
         signed: is_signed(kind),
@@ -86,7 +89,9 @@ fn put_target(
     mark: Mark,
     label: u64,
 ) -> Result<(), AllocError>
-    ensures { OnOk result ((others : List (num.Num × List ℕ)) → targets.new.items ++ others ≡ targets.old.items ++ targets_by mark (within_of code.entry) kind label others) }
+    ensures { OnOk result
+        ((others : List (num.Num × List ℕ))
+        → targets.new.items ++ others ≡ targets.old.items ++ targets_by mark (within_of code.entry) kind label others) }
 {
     match mark {
         Mark::Case(constant) => {
@@ -107,7 +112,9 @@ fn targets_in(
     body: &[Stmt],
 ) -> Result<Vec<(Num, Name)>, AllocError>
     requires { first + laws.cases_in (statements_of (map statement_of body.now)) < 2 ^ 64 }
-    ensures { IfOk result (λ targets. targets.items ≡ laws.targets_in (within_of code.entry) kind first (statements_of (map statement_of body.now))) }
+    ensures { IfOk result
+        (λ targets. targets.items
+        ≡ laws.targets_in (within_of code.entry) kind first (statements_of (map statement_of body.now))) }
 {
     let mut targets = Vec::new(code.alloc);
     let mut label = first;
@@ -124,7 +131,8 @@ fn targets_in(
 // The number of the default's label; where there is none, that of this one.
 fn default_in(code: Code<'_, '_>, first: u64, otherwise: u64, body: &[Stmt]) -> u64
     requires { first + laws.cases_in (statements_of (map statement_of body.now)) < 2 ^ 64 }
-    ensures { names.label (within_of code.entry) result ≡ laws.default_in (within_of code.entry) first otherwise (statements_of (map statement_of body.now)) }
+    ensures { names.label (within_of code.entry) result
+        ≡ laws.default_in (within_of code.entry) first otherwise (statements_of (map statement_of body.now)) }
 {
     let _table = code.table;
     let mut label = first;
@@ -153,7 +161,10 @@ pub fn put_switch(
 ) -> Result<(), AllocError>
     requires words { (unit_of code.table.now).words ≡ scopes.now.words }
     requires few { first + laws.cases_in (statements_of (map statement_of body.now)) < 2 ^ 64 }
-    ensures { OnOk result (Makes items.old.items items.new.items (λ rest. laws.switch_item (within_of code.entry) scopes.now.scopes (expression_of value.now) (statements_of (map statement_of body.now)) first otherwise ∷ rest)) }
+    ensures { OnOk result
+        (Makes items.old.items items.new.items
+        (λ rest. laws.switch_item (within_of code.entry) scopes.now.scopes (expression_of value.now)
+        (statements_of (map statement_of body.now)) first otherwise ∷ rest)) }
 {
     let value = value_of(code.alloc, code.table, scopes, value)?;
     let kind = left_type(kind_or_int(value.kind));

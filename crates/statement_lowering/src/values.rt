@@ -48,8 +48,11 @@ pub fn put_value(
     number: u64,
 ) -> Result<Term, AllocError>
     requires { (unit_of code.table.now).words ≡ scopes.now.words }
-    ensures items { OnOk result (Makes items.old.items items.new.items (value_calls (within_of code.entry) scopes.now.scopes (value_of value.now) number)) }
-    ensures value { IfOk result (λ term. expression_of term ≡ value_term (within_of code.entry) scopes.now.scopes (value_of value.now) number) }
+    ensures items { OnOk result
+        (Makes items.old.items items.new.items
+        (value_calls (within_of code.entry) scopes.now.scopes (value_of value.now) number)) }
+    ensures value { IfOk result
+        (λ term. expression_of term ≡ value_term (within_of code.entry) scopes.now.scopes (value_of value.now) number) }
 {
     match value {
         Value::Expr(e) => {

@@ -57,12 +57,14 @@ first_argument parts frame others args v further vs cons values h =
 
 -- ---- a function entered
 
-arguments_run : (args : List ℕ) (vs : List AbstractValue) (m : Mem abstract_sets) → (with_arguments args vs m).runs ≡ m.runs
+arguments_run : (args : List ℕ) (vs : List AbstractValue) (m : Mem abstract_sets)
+    → (with_arguments args vs m).runs ≡ m.runs
 arguments_run [] vs m = refl
 arguments_run (frame ∷ args) [] m = refl
 arguments_run (frame ∷ args) (v ∷ vs) m = arguments_run args vs (filled m frame 0 (width_of v) v)
 
-own_arguments : (table : List FrameRow) (k f : ℕ) (args : List ℕ) (vs : List AbstractValue) → ((frame : ℕ) → Contains args frame → IsFrameOf table (Some f) frame)
+own_arguments : (table : List FrameRow) (k f : ℕ) (args : List ℕ) (vs : List AbstractValue)
+    → ((frame : ℕ) → Contains args frame → IsFrameOf table (Some f) frame)
     → AllZip (ArgumentIs table k) args vs → AllZip (IsArgument table (Some f)) args vs
 own_arguments table k f [] [] own are = tt
 own_arguments table k f [] (v ∷ vs) own are = absurd are
@@ -86,7 +88,8 @@ module _ (program : NumberedProgram) (keeps : IsKept program) (f : ℕ) (row : F
   same_function vs fit = same_Some fit.function is.function (sym fit.at ∙ is.at)
 
   -- the frames of its arguments are active
-  pub entered_frames : (new : MemoryParts) (m : Mem abstract_sets) (rows : List FrameShape) (vs : List AbstractValue) → seen new.checked ≡ program → memory_in new ≡ entered abstract_sets rows m f
+  pub entered_frames : (new : MemoryParts) (m : Mem abstract_sets) (rows : List FrameShape) (vs : List AbstractValue)
+      → seen new.checked ≡ program → memory_in new ≡ entered abstract_sets rows m f
       → FitCall program f vs → HaveFrames new row.args.items vs
   entered_frames new m rows vs same now fit = record {
     owner = Some f;
@@ -98,7 +101,8 @@ module _ (program : NumberedProgram) (keeps : IsKept program) (f : ℕ) (row : F
   }
 
   -- and so are those of what its frames hold at first
-  pub entered_room : (new : MemoryParts) (m : Mem abstract_sets) (rows : List FrameShape) (vs : List AbstractValue) → seen new.checked ≡ program
+  pub entered_room : (new : MemoryParts) (m : Mem abstract_sets) (rows : List FrameShape) (vs : List AbstractValue)
+      → seen new.checked ≡ program
       → memory_in new ≡ with_arguments row.args.items vs (entered abstract_sets rows m f) → HaveRoom new row.inits.items
   entered_room new m rows vs same now = record {
     owner = Some f;
@@ -114,7 +118,8 @@ module _ (program : NumberedProgram) (keeps : IsKept program) (f : ℕ) (row : F
   inits_are = ap (λ (o : Option NumberedFunction). option_map_or (λ (g : NumberedFunction). g.inits) o []) is.at ∙ sym is.inits
 
   -- the memory after all
-  pub entered_is : (vs : List AbstractValue) (m first second last : Mem abstract_sets) (rows : List FrameShape) → rows ≡ frames_of program → first ≡ entered abstract_sets rows m f
+  pub entered_is : (vs : List AbstractValue) (m first second last : Mem abstract_sets) (rows : List FrameShape)
+      → rows ≡ frames_of program → first ≡ entered abstract_sets rows m f
       → second ≡ with_arguments row.args.items vs first → last ≡ with_inits row.inits.items second → last ≡ entered_with program f vs m
   entered_is vs m first second last rows same one two three =
       three ∙ ap (with_inits row.inits.items) (two ∙ ap (with_arguments row.args.items vs) (one ∙ ap (λ (r : List FrameShape). entered abstract_sets r m f) same))
@@ -126,9 +131,11 @@ module _ (program : NumberedProgram) (keeps : IsKept program) (f : ℕ) (row : F
   no_arguments (frame ∷ args) m = refl
 
   -- without arguments
-  pub plain_room : (new : MemoryParts) (m : Mem abstract_sets) (rows : List FrameShape) → seen new.checked ≡ program → memory_in new ≡ entered abstract_sets rows m f → HaveRoom new row.inits.items
+  pub plain_room : (new : MemoryParts) (m : Mem abstract_sets) (rows : List FrameShape) → seen new.checked ≡ program
+      → memory_in new ≡ entered abstract_sets rows m f → HaveRoom new row.inits.items
   plain_room new m rows same now = entered_room new m rows [] same (now ∙ sym (no_arguments row.args.items (entered abstract_sets rows m f)))
 
-  pub plain_is : (m first last : Mem abstract_sets) (rows : List FrameShape) → rows ≡ frames_of program → first ≡ entered abstract_sets rows m f → last ≡ with_inits row.inits.items first
+  pub plain_is : (m first last : Mem abstract_sets) (rows : List FrameShape) → rows ≡ frames_of program
+      → first ≡ entered abstract_sets rows m f → last ≡ with_inits row.inits.items first
       → last ≡ entered_with program f [] m
   plain_is m first last rows same one two = entered_is [] m first first last rows same one (sym (no_arguments row.args.items first)) two

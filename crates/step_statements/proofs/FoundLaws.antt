@@ -71,7 +71,8 @@ first_found value values faults more =
     remains_is (Some (value ∷ values)) (Some (value ∷ values)) (either faults more) (either faults (either more no_faults)) refl (ap (either faults) (sym (union_none more)))
 
 -- what comes after two operands
-pub two_told : {B : Type 0} (x y : AbstractValue) (f g both : FaultSet) (further : List AbstractValue → Remains B) → both ≡ either f g
+pub two_told : {B : Type 0} (x y : AbstractValue) (f g both : FaultSet) (further : List AbstractValue → Remains B)
+    → both ≡ either f g
     → with_faults both (further (x ∷ y ∷ [])) ≡ goes_on (two_operands (record { left = Some x; faults = f }) (record { left = Some y; faults = g })) further
 two_told x y f g both further is =
     ap (λ (s : FaultSet). with_faults s (further (x ∷ y ∷ []))) (is ∙ ap (either f) (sym (union_none (either g no_faults) ∙ union_none g)))
@@ -113,7 +114,8 @@ load_told rows m size at (Err e) is value each = tt
 
 -- ---- stores
 
-possible_is : {A : Type 0} (cells : List (ℕ × ℕ)) (a : A) (on : Bool) → IsTrue on ↔ (cells ≢ []) → (if on then Some a else None) ≡ where_possible cells a
+possible_is : {A : Type 0} (cells : List (ℕ × ℕ)) (a : A) (on : Bool) → IsTrue on ↔ (cells ≢ [])
+    → (if on then Some a else None) ≡ where_possible cells a
 possible_is [] a true is = absurd (is.0 refl refl)
 possible_is [] a false is = refl
 possible_is (cell ∷ cells) a true is = refl
@@ -146,7 +148,8 @@ store_told rows m new width at v (Err e) is own stored possible each = tt
 -- ---- statements in order
 
 -- it goes on with what is left
-pub goes_further : {A B : Type 0} (faults more : FaultSet) (a : A) (r : Remains A) (further : A → Remains B) → r ≡ record { left = Some a; faults = more }
+pub goes_further : {A B : Type 0} (faults more : FaultSet) (a : A) (r : Remains A) (further : A → Remains B)
+    → r ≡ record { left = Some a; faults = more }
     → with_faults faults (goes_on r further) ≡ with_faults (either faults more) (further a)
 goes_further faults more a r further is =
     ap (λ r. with_faults faults (goes_on r further)) is

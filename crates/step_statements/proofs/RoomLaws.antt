@@ -37,7 +37,8 @@ pub word_sized : (parts : MemoryParts) (init : InitRow) → HasRoom parts init �
 word_sized parts init room = word_size init.num.size room.fits.word.sized
 
 -- the cell lies in its frame, which is active
-pub cell_there : (parts : MemoryParts) (init : InitRow) (v : AbstractValue) → HasRoom parts init → v ≡ word_value init.num.size init.num.bits
+pub cell_there : (parts : MemoryParts) (init : InitRow) (v : AbstractValue) → HasRoom parts init
+    → v ≡ word_value init.num.size init.num.bits
     → IsCellAt (rows_of parts.checked) (memory_in parts).runs init.frame init.offset (width_of v)
 cell_there parts init v room is =
     let row = room.fits.row in
@@ -51,7 +52,8 @@ cell_there parts init v room is =
     })
 
 -- the first of words in a row
-pub first_room : (parts : MemoryParts) (init : InitRow) (others inits : List InitRow) → inits ≡ init ∷ others → HaveRoom parts inits → HasRoom parts init
+pub first_room : (parts : MemoryParts) (init : InitRow) (others inits : List InitRow) → inits ≡ init ∷ others
+    → HaveRoom parts inits → HasRoom parts init
 first_room parts init others inits cons room = record {
   owner = room.owner;
   active = room.active;
@@ -59,7 +61,8 @@ first_room parts init others inits cons room = record {
 }
 
 -- and those that are left
-pub later_room : (parts new : MemoryParts) (init : InitRow) (others inits : List InitRow) → inits ≡ init ∷ others → new.checked ≡ parts.checked → (memory_in new).runs ≡ (memory_in parts).runs
+pub later_room : (parts new : MemoryParts) (init : InitRow) (others inits : List InitRow) → inits ≡ init ∷ others
+    → new.checked ≡ parts.checked → (memory_in new).runs ≡ (memory_in parts).runs
     → HaveRoom parts inits → HaveRoom new others
 later_room parts new init others inits cons same runs room = record {
   owner = room.owner;
@@ -70,7 +73,8 @@ later_room parts new init others inits cons same runs room = record {
 
 -- ---- cells
 
-goes : (on : Bool) (faults : FaultSet) (new last : Mem abstract_sets) → done (on, faults) new ≡ all_left last → new ≡ last
+goes : (on : Bool) (faults : FaultSet) (new last : Mem abstract_sets) → done (on, faults) new ≡ all_left last
+    → new ≡ last
 goes true faults new last e = let same : Some new ≡ Some last = ap (λ (r : Remains (Mem abstract_sets)). r.left) e in cc
 goes false faults new last e = let bad : None ≡ Some last = ap (λ (r : Remains (Mem abstract_sets)). r.left) e in cc
 

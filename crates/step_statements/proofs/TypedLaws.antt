@@ -34,19 +34,23 @@ use Rattle.transfer_rules.specs.EvaluatingLaws.{value_sized, values_sized}
 use Rattle.step_statements.specs.Typed.{IsTyped, AreTyped}
 use Rattle.step_statements.specs.Found.{found, one_operand, two_operands, three_operands}
 
-pub first_typed : (sizes : List ℕ) (e : NumberedExpression) (es : NumberedExpressions) → AreTyped sizes (With e es) → IsTyped e
+pub first_typed : (sizes : List ℕ) (e : NumberedExpression) (es : NumberedExpressions) → AreTyped sizes (With e es)
+    → IsTyped e
 first_typed [] e es h = absurd h.have
 first_typed (size ∷ sizes) e es h = record { table = h.table; function = h.function; size = size; has = h.have.0 }
 
-pub second_typed : (sizes : List ℕ) (a b : NumberedExpression) (es : NumberedExpressions) → AreTyped sizes (With a (With b es)) → IsTyped b
+pub second_typed : (sizes : List ℕ) (a b : NumberedExpression) (es : NumberedExpressions)
+    → AreTyped sizes (With a (With b es)) → IsTyped b
 second_typed [] a b es h = absurd h.have
 second_typed (size ∷ sizes) a b es h = first_typed sizes b es (record { table = h.table; function = h.function; have = h.have.1 })
 
-pub third_typed : (sizes : List ℕ) (a b c : NumberedExpression) (es : NumberedExpressions) → AreTyped sizes (With a (With b (With c es))) → IsTyped c
+pub third_typed : (sizes : List ℕ) (a b c : NumberedExpression) (es : NumberedExpressions)
+    → AreTyped sizes (With a (With b (With c es))) → IsTyped c
 third_typed [] a b c es h = absurd h.have
 third_typed (size ∷ sizes) a b c es h = second_typed sizes b c es (record { table = h.table; function = h.function; have = h.have.1 })
 
-as_many : (rows : List FrameRow) (function : ℕ) (sizes : List ℕ) (es : List NumberedExpression) → HaveSizes rows function sizes (expressions_of es) → length es ≡ length sizes
+as_many : (rows : List FrameRow) (function : ℕ) (sizes : List ℕ) (es : List NumberedExpression)
+    → HaveSizes rows function sizes (expressions_of es) → length es ≡ length sizes
 as_many rows function [] [] h = refl
 as_many rows function [] (e ∷ es) h = absurd h
 as_many rows function (size ∷ sizes) [] h = absurd h
@@ -72,7 +76,8 @@ few_sizes Field m n h = record { some = omega arith; few = omega arith }
 few_sizes Choice m n h = record { some = omega arith; few = omega arith }
 
 -- an operator has one to three operands
-pub few_terms : (op : Op) (sizes : List ℕ) (terms : List Term) → AreTyped (operand_sizes op sizes) (expressions_of (map term_of terms)) → IsFew (length terms)
+pub few_terms : (op : Op) (sizes : List ℕ) (terms : List Term)
+    → AreTyped (operand_sizes op sizes) (expressions_of (map term_of terms)) → IsFew (length terms)
 few_terms op sizes terms typed =
     let many = as_many typed.table typed.function (operand_sizes op sizes) (map term_of terms) typed.have in
     let long = length-map terms term_of in
@@ -85,13 +90,15 @@ one_member [] a some few e = absurd (omega arith)
 one_member (x ∷ []) a some few e = cc
 one_member (x ∷ y ∷ xs) a some few e = absurd (omega arith)
 
-pub two_members : {A : Type 0} (xs : List A) (a b : A) → 2 ≤ length xs → length xs < 3 → a ≡ get_or xs 0 a → b ≡ get_or xs 1 b → xs ≡ a ∷ b ∷ []
+pub two_members : {A : Type 0} (xs : List A) (a b : A) → 2 ≤ length xs → length xs < 3 → a ≡ get_or xs 0 a
+    → b ≡ get_or xs 1 b → xs ≡ a ∷ b ∷ []
 two_members [] a b some few e f = absurd (omega arith)
 two_members (x ∷ []) a b some few e f = absurd (omega arith)
 two_members (x ∷ y ∷ []) a b some few e f = cc
 two_members (x ∷ y ∷ z ∷ xs) a b some few e f = absurd (omega arith)
 
-pub three_members : {A : Type 0} (xs : List A) (a b c : A) → 3 ≤ length xs → length xs < 4 → a ≡ get_or xs 0 a → b ≡ get_or xs 1 b → c ≡ get_or xs 2 c → xs ≡ a ∷ b ∷ c ∷ []
+pub three_members : {A : Type 0} (xs : List A) (a b c : A) → 3 ≤ length xs → length xs < 4 → a ≡ get_or xs 0 a
+    → b ≡ get_or xs 1 b → c ≡ get_or xs 2 c → xs ≡ a ∷ b ∷ c ∷ []
 three_members [] a b c some few e f g = absurd (omega arith)
 three_members (x ∷ []) a b c some few e f g = absurd (omega arith)
 three_members (x ∷ y ∷ []) a b c some few e f g = absurd (omega arith)
@@ -107,21 +114,24 @@ value_found parts table k size e answer is has told =
     subst (λ (r : Remains AbstractValue). IfLeft (IsValue size) r) (sym told) (value_sized table (rows_of parts.checked) (memory_in parts) is.sized k e size has)
 
 -- the address of a load is a pointer's
-pub load_sized : (parts : MemoryParts) (e at : NumberedExpression) (bits : ℕ) (answer : Option AbstractValue × FaultSet) → IsMemory parts → IsTyped e → e ≡ Load bits at
+pub load_sized : (parts : MemoryParts) (e at : NumberedExpression) (bits : ℕ) (answer : Option AbstractValue × FaultSet)
+    → IsMemory parts → IsTyped e → e ≡ Load bits at
     → found answer ≡ value_at (rows_of parts.checked) (memory_in parts) at → IfSome answer.0 (IsValue 32)
 load_sized parts e at bits answer is typed same told =
     let has : HasWritten typed.table typed.function typed.size (Load bits at) = subst (HasWritten typed.table typed.function typed.size) same typed.has in
     value_found parts typed.table typed.function 32 at answer is has.address told
 
 -- an operator has a result, and its operands have sizes
-pub apply_typed : (e : NumberedExpression) (op : Op) (sizes : List ℕ) (es : NumberedExpressions) → IsTyped e → e ≡ Apply op sizes es
+pub apply_typed : (e : NumberedExpression) (op : Op) (sizes : List ℕ) (es : NumberedExpressions) → IsTyped e
+    → e ≡ Apply op sizes es
     → IsSome (result_size op sizes) × AreTyped (operand_sizes op sizes) es
 apply_typed e op sizes es typed same =
     let has : HasWritten typed.table typed.function typed.size (Apply op sizes es) = subst (HasWritten typed.table typed.function typed.size) same typed.has in
     (subst (λ (o : Option ℕ). IsSome o) (sym has.result_is) refl, record { table = typed.table; function = typed.function; have = has.operands })
 
 -- the same of its parts as code passes them on
-pub operands_typed : {K : Type 0} (e : NumberedExpression) (op : Op) (sizes own : List ℕ) (terms passed : List Term) → IsTyped e → e ≡ Apply op sizes (expressions_of (map term_of terms))
+pub operands_typed : {K : Type 0} (e : NumberedExpression) (op : Op) (sizes own : List ℕ) (terms passed : List Term)
+    → IsTyped e → e ≡ Apply op sizes (expressions_of (map term_of terms))
     → own ≡ sizes → passed ≡ terms → K → IsSome (result_size op own) × (AreTyped (operand_sizes op own) (expressions_of (map term_of passed)) × K)
 operands_typed e op sizes own terms passed typed same of_sizes of_terms kept =
     let parts = apply_typed e op sizes (expressions_of (map term_of terms)) typed same in (
@@ -133,13 +143,15 @@ operands_typed e op sizes own terms passed typed same of_sizes of_terms kept =
       ),
     )
 
-each_size : (sizes : List ℕ) (vs : List AbstractValue) → AllZip IsValue sizes vs → AllZip (λ size v. HasSize v size) sizes vs
+each_size : (sizes : List ℕ) (vs : List AbstractValue) → AllZip IsValue sizes vs
+    → AllZip (λ size v. HasSize v size) sizes vs
 each_size [] [] are = tt
 each_size [] (v ∷ vs) are = absurd are
 each_size (size ∷ sizes) [] are = absurd are
 each_size (size ∷ sizes) (v ∷ vs) are = (are.0.sized, each_size sizes vs are.1)
 
-are_sized : (sizes : List ℕ) (o : Option (List AbstractValue)) → IfSome o (AllZip IsValue sizes) → IfSome o (AllZip (λ size v. HasSize v size) sizes)
+are_sized : (sizes : List ℕ) (o : Option (List AbstractValue)) → IfSome o (AllZip IsValue sizes)
+    → IfSome o (AllZip (λ size v. HasSize v size) sizes)
 are_sized sizes None are = tt
 are_sized sizes (Some vs) are = each_size sizes vs are
 
@@ -151,16 +163,19 @@ operands_sized parts sizes es r is typed same = are_sized sizes r.left (subst (�
 
 -- and so has each of one, two or three
 module _ (P : List AbstractValue → Type 0) where
-  pub one_sized : (x : Option AbstractValue × FaultSet) → IfLeft P (one_operand (found x)) → IfSome x.0 (λ a. P (a ∷ []))
+  pub one_sized : (x : Option AbstractValue × FaultSet) → IfLeft P (one_operand (found x))
+      → IfSome x.0 (λ a. P (a ∷ []))
   one_sized (None, f) h = tt
   one_sized (Some a, f) h = h
 
-  pub two_sized : (x y : Option AbstractValue × FaultSet) → IfLeft P (two_operands (found x) (found y)) → IfSome x.0 (λ a. IfSome y.0 (λ b. P (a ∷ b ∷ [])))
+  pub two_sized : (x y : Option AbstractValue × FaultSet) → IfLeft P (two_operands (found x) (found y))
+      → IfSome x.0 (λ a. IfSome y.0 (λ b. P (a ∷ b ∷ [])))
   two_sized (None, f) y h = tt
   two_sized (Some a, f) (None, g) h = tt
   two_sized (Some a, f) (Some b, g) h = h
 
-  pub three_sized : (x y z : Option AbstractValue × FaultSet) → IfLeft P (three_operands (found x) (found y) (found z)) → IfSome x.0 (λ a. IfSome y.0 (λ b. IfSome z.0 (λ c. P (a ∷ b ∷ c ∷ []))))
+  pub three_sized : (x y z : Option AbstractValue × FaultSet) → IfLeft P (three_operands (found x) (found y) (found z))
+      → IfSome x.0 (λ a. IfSome y.0 (λ b. IfSome z.0 (λ c. P (a ∷ b ∷ c ∷ []))))
   three_sized (None, f) y z h = tt
   three_sized (Some a, f) (None, g) z h = tt
   three_sized (Some a, f) (Some b, g) (None, k) h = tt
@@ -175,17 +190,20 @@ module _ (parts : MemoryParts) where
   abbrev givens : NumberedExpressions → Remains (List AbstractValue)
   givens es = values_at (rows_of parts.checked) (memory_in parts) es
 
-  pub one_found : (terms : List Term) (a : Term) (x : Option AbstractValue × FaultSet) → terms ≡ a ∷ [] → found x ≡ given (term_of a)
+  pub one_found : (terms : List Term) (a : Term) (x : Option AbstractValue × FaultSet) → terms ≡ a ∷ []
+      → found x ≡ given (term_of a)
       → one_operand (found x) ≡ givens (expressions_of (map term_of terms))
   one_found terms a x split of_a = ap one_operand of_a ∙ ap (λ (ts : List Term). givens (expressions_of (map term_of ts))) (sym split)
 
-  pub two_found : (terms : List Term) (a b : Term) (x y : Option AbstractValue × FaultSet) → terms ≡ a ∷ b ∷ [] → found x ≡ given (term_of a) → found y ≡ given (term_of b)
+  pub two_found : (terms : List Term) (a b : Term) (x y : Option AbstractValue × FaultSet) → terms ≡ a ∷ b ∷ []
+      → found x ≡ given (term_of a) → found y ≡ given (term_of b)
       → two_operands (found x) (found y) ≡ givens (expressions_of (map term_of terms))
   two_found terms a b x y split of_a of_b =
       ap (λ (r : Remains AbstractValue). two_operands r (found y)) of_a ∙ (ap (two_operands (given (term_of a))) of_b
       ∙ ap (λ (ts : List Term). givens (expressions_of (map term_of ts))) (sym split))
 
-  pub three_found : (terms : List Term) (a b c : Term) (x y z : Option AbstractValue × FaultSet) → terms ≡ a ∷ b ∷ c ∷ []
+  pub three_found : (terms : List Term) (a b c : Term) (x y z : Option AbstractValue × FaultSet)
+      → terms ≡ a ∷ b ∷ c ∷ []
       → found x ≡ given (term_of a) → found y ≡ given (term_of b) → found z ≡ given (term_of c)
       → three_operands (found x) (found y) (found z) ≡ givens (expressions_of (map term_of terms))
   three_found terms a b c x y z split of_a of_b of_c =
@@ -197,5 +215,6 @@ module _ (parts : MemoryParts) where
 -- ---- arguments
 
 -- the first, and those that are left, have sizes
-pub later_typed : (term : Term) (others terms : List Term) → terms ≡ term ∷ others → AllByRecursion IsTyped (map term_of terms) → IsTyped (term_of term) × AllByRecursion IsTyped (map term_of others)
+pub later_typed : (term : Term) (others terms : List Term) → terms ≡ term ∷ others
+    → AllByRecursion IsTyped (map term_of terms) → IsTyped (term_of term) × AllByRecursion IsTyped (map term_of others)
 later_typed term others terms cons typed = subst (λ (ts : List Term). AllByRecursion IsTyped (map term_of ts)) cons typed

@@ -28,7 +28,8 @@ one_operand a = goes_on a (before (all_left []))
 abbrev pub two_operands : Remains AbstractValue → Remains AbstractValue → Remains (List AbstractValue)
 two_operands a b = goes_on a (before (one_operand b))
 
-abbrev pub three_operands : Remains AbstractValue → Remains AbstractValue → Remains AbstractValue → Remains (List AbstractValue)
+abbrev pub three_operands : Remains AbstractValue → Remains AbstractValue → Remains AbstractValue
+    → Remains (List AbstractValue)
 three_operands a b c = goes_on a (before (two_operands b c))
 
 -- whether some run goes on, with this memory, and the faults

@@ -53,7 +53,8 @@ pub fn enter(
     requires call { FitCall (seen checked.now) func values.now }
     ensures checked { OnOk result (memory.new.checked ≡ memory.old.checked) }
     ensures kept { OnOk result (IsMemory memory.new) }
-    ensures entered { OnOk result (memory_in memory.new ≡ entered_with (seen checked.now) func values.now (memory_in memory.old)) }
+    ensures entered { OnOk result
+        (memory_in memory.new ≡ entered_with (seen checked.now) func values.now (memory_in memory.old)) }
 {
     checked.keeps();
     let row = checked.func(func);
@@ -75,7 +76,8 @@ pub fn enter_plainly(
     requires func { func < length (seen checked.now).funcs }
     ensures checked { OnOk result (memory.new.checked ≡ memory.old.checked) }
     ensures kept { OnOk result (IsMemory memory.new) }
-    ensures entered { OnOk result (memory_in memory.new ≡ entered_with (seen checked.now) func [] (memory_in memory.old)) }
+    ensures entered { OnOk result
+        (memory_in memory.new ≡ entered_with (seen checked.now) func [] (memory_in memory.old)) }
 {
     checked.keeps();
     let row = checked.func(func);

@@ -9,7 +9,8 @@ ghost use Rattle.memory_rules.specs.Covers.{IsCellSize};
 ghost use Rattle.pointer_rules.specs.Covering.{IsValue};
 ghost use Rattle.memory_model.specs.KeptMemories.{memory_in, rows_of, IsMemory};
 ghost use Rattle.transfer_rules.specs.Remains.{all_left, goes_on};
-ghost use Rattle.transfer_rules.specs.Evaluating.{word_value, pointer_value, loaded, operated, value_at, values_at, arguments_at};
+ghost use Rattle.transfer_rules.specs.Evaluating.{word_value, pointer_value, loaded, operated, value_at, values_at};
+ghost use Rattle.transfer_rules.specs.Evaluating.{arguments_at};
 ghost use Rattle.step_statements.specs.Typed.{IsTyped, AreTyped};
 ghost use Rattle.step_statements.specs.Found.{found, founds};
 
@@ -50,7 +51,9 @@ fn load(
     requires kept { IsMemory memory.now }
     requires place { IfSome place.0 (IsValue 32) }
     requires size { IsCellSize size }
-    ensures { IfOk result (λ answer. found answer ≡ goes_on (found place) (loaded (rows_of memory.now.checked) (memory_in memory.now) size)) }
+    ensures { IfOk result
+        (λ answer. found answer
+        ≡ goes_on (found place) (loaded (rows_of memory.now.checked) (memory_in memory.now) size)) }
 {
     let (at, faults) = place;
     match at {
@@ -72,7 +75,10 @@ fn load_cell(
 ) -> Result<(Option<AVal>, FaultSet), AllocError>
     requires kept { IsMemory memory.now }
     requires size { IsCellSize size }
-    ensures { IfOk result (λ answer. found answer ≡ goes_on (all_left (pointer_value frame offset)) (loaded (rows_of memory.now.checked) (memory_in memory.now) size)) }
+    ensures { IfOk result
+        (λ answer. found answer
+        ≡ goes_on (all_left (pointer_value frame offset))
+        (loaded (rows_of memory.now.checked) (memory_in memory.now) size)) }
 {
     memory.load_cell(alloc, frame, offset, size)
 }
@@ -98,7 +104,8 @@ pub fn evaluate(
 ) -> Result<(Option<AVal>, FaultSet), AllocError>
     requires typed { IsTyped (term_of term.now) }
     requires kept { IsMemory memory.now }
-    ensures { IfOk result (λ answer. found answer ≡ value_at (rows_of memory.now.checked) (memory_in memory.now) (term_of term.now)) }
+    ensures { IfOk result
+        (λ answer. found answer ≡ value_at (rows_of memory.now.checked) (memory_in memory.now) (term_of term.now)) }
 {
     match term {
         Term::Num(num) => Ok(word(alloc, *num)),
@@ -118,7 +125,9 @@ fn evaluate_load(
 ) -> Result<(Option<AVal>, FaultSet), AllocError>
     requires typed { IsTyped (Load size (term_of at.now)) }
     requires kept { IsMemory memory.now }
-    ensures { IfOk result (λ answer. found answer ≡ value_at (rows_of memory.now.checked) (memory_in memory.now) (Load size (term_of at.now))) }
+    ensures { IfOk result
+        (λ answer. found answer
+        ≡ value_at (rows_of memory.now.checked) (memory_in memory.now) (Load size (term_of at.now))) }
 {
     if let Some((frame, offset)) = address_of(at) {
         return load_cell(alloc, memory, frame, offset, size);
@@ -139,7 +148,11 @@ fn operate(
     requires shaped { IsSome (result_size op sizes.now) }
     requires typed { AreTyped (operand_sizes op sizes.now) (expressions_of (map term_of terms.now)) }
     requires kept { IsMemory memory.now }
-    ensures { IfOk result (λ answer. found answer ≡ goes_on (values_at (rows_of memory.now.checked) (memory_in memory.now) (expressions_of (map term_of terms.now))) (operated op sizes.now)) }
+    ensures { IfOk result
+        (λ answer. found answer
+        ≡ goes_on
+        (values_at (rows_of memory.now.checked) (memory_in memory.now) (expressions_of (map term_of terms.now)))
+        (operated op sizes.now)) }
 {
     match terms {
         [] => unreachable!(),
@@ -162,7 +175,8 @@ fn operate(
     }
 }
 
-/// What arguments of a call give over the memory, from left to right: their values, where some run goes on, and the faults.
+/// What arguments of a call give over the memory, from left to right: their values, where some run goes on, and the
+/// faults.
 pub fn evaluate_arguments(
     alloc: Global,
     memory: &AMem<'_>,
@@ -170,7 +184,9 @@ pub fn evaluate_arguments(
 ) -> Result<(Option<Vec<AVal>>, FaultSet), AllocError>
     requires typed { AllByRecursion IsTyped (map term_of terms.now) }
     requires kept { IsMemory memory.now }
-    ensures { IfOk result (λ answer. founds answer ≡ arguments_at (rows_of memory.now.checked) (memory_in memory.now) (map term_of terms.now)) }
+    ensures { IfOk result
+        (λ answer. founds answer
+        ≡ arguments_at (rows_of memory.now.checked) (memory_in memory.now) (map term_of terms.now)) }
 {
     let Some((term, others)) = terms.split_first() else {
         return Ok(no_operand(alloc));

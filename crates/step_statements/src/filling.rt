@@ -25,10 +25,12 @@ pub fn fill(
 ) -> Result<(), AllocError>
     requires kept { IsMemory memory.old }
     requires value { IsStorable value.now }
-    requires cell { IsCellAt (rows_of memory.old.checked) (memory_in memory.old).runs frame offset (width_of value.now) }
+    requires cell { IsCellAt (rows_of memory.old.checked) (memory_in memory.old).runs frame offset
+        (width_of value.now) }
     ensures checked { OnOk result (memory.new.checked ≡ memory.old.checked) }
     ensures kept { OnOk result (IsMemory memory.new) }
-    ensures filled { OnOk result (memory_in memory.new ≡ filled (memory_in memory.old) frame offset (width_of value.now) value.now) }
+    ensures filled { OnOk result
+        (memory_in memory.new ≡ filled (memory_in memory.old) frame offset (width_of value.now) value.now) }
 {
     store_at(alloc, memory, frame, offset, value)?;
     Ok(())

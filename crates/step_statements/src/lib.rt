@@ -1,7 +1,7 @@
 //! What expressions give and what statements make of an abstract memory, and functions entered.
 //!
-//! Each call gives exactly what the definitions of `transfer_rules` say, whose laws hold of it: values of expressions with
-//! the faults that some run may end with, and memories after statements. The crate rests on abstract memory and on
+//! Each call gives exactly what the definitions of `transfer_rules` say, whose laws hold of it: values of expressions
+//! with the faults that some run may end with, and memories after statements. The crate rests on abstract memory and on
 //! checked programs.
 #![tactic(auto)]
 

@@ -96,8 +96,10 @@ pub(crate) fn at_two(
     b: (Option<AVal>, FaultSet),
 ) -> Result<(Option<AVal>, FaultSet), AllocError>
     requires typed { IsSome (result_size op sizes.now) }
-    requires sized { IfSome a.0 (λ x. IfSome b.0 (λ y. AllZip (λ size v. HasSize v size) (operand_sizes op sizes.now) (x ∷ y ∷ []))) }
-    ensures { IfOk result (λ answer. found answer ≡ goes_on (two_operands (found a) (found b)) (operated op sizes.now)) }
+    requires sized { IfSome a.0
+        (λ x. IfSome b.0 (λ y. AllZip (λ size v. HasSize v size) (operand_sizes op sizes.now) (x ∷ y ∷ []))) }
+    ensures { IfOk result
+        (λ answer. found answer ≡ goes_on (two_operands (found a) (found b)) (operated op sizes.now)) }
 {
     let (value, faults) = a;
     let Some(x) = value else {
@@ -121,8 +123,11 @@ pub(crate) fn at_three(
     c: (Option<AVal>, FaultSet),
 ) -> Result<(Option<AVal>, FaultSet), AllocError>
     requires typed { IsSome (result_size op sizes.now) }
-    requires sized { IfSome a.0 (λ x. IfSome b.0 (λ y. IfSome c.0 (λ z. AllZip (λ size v. HasSize v size) (operand_sizes op sizes.now) (x ∷ y ∷ z ∷ [])))) }
-    ensures { IfOk result (λ answer. found answer ≡ goes_on (three_operands (found a) (found b) (found c)) (operated op sizes.now)) }
+    requires sized { IfSome a.0
+        (λ x. IfSome b.0
+        (λ y. IfSome c.0 (λ z. AllZip (λ size v. HasSize v size) (operand_sizes op sizes.now) (x ∷ y ∷ z ∷ [])))) }
+    ensures { IfOk result
+        (λ answer. found answer ≡ goes_on (three_operands (found a) (found b) (found c)) (operated op sizes.now)) }
 {
     let (value, faults) = a;
     let Some(x) = value else {

@@ -40,14 +40,16 @@ fn store_through(
     requires value { IsStorable value.now }
     ensures checked { OnOk result (memory.new.checked ≡ memory.old.checked) }
     ensures kept { OnOk result (IsMemory memory.new) }
-    ensures stored { IfOk result (λ answer. done answer (memory_in memory.new) ≡ stored_through (rows_of memory.old.checked) (memory_in memory.old) at.now value.now) }
+    ensures stored { IfOk result
+        (λ answer. done answer (memory_in memory.new)
+        ≡ stored_through (rows_of memory.old.checked) (memory_in memory.old) at.now value.now) }
 {
     let size = width(value);
     memory.store(alloc, at, value, size)
 }
 
-/// Stores the value at an offset of a frame, as through a pointer: whether some run goes on, which is whether the cell lies
-/// in the frame and this is active, and the faults. After want of memory the memory is given up.
+/// Stores the value at an offset of a frame, as through a pointer: whether some run goes on, which is whether the cell
+/// lies in the frame and this is active, and the faults. After want of memory the memory is given up.
 pub fn store_at(
     alloc: Global,
     memory: &mut AMem<'_>,
@@ -59,7 +61,9 @@ pub fn store_at(
     requires value { IsStorable value.now }
     ensures checked { OnOk result (memory.new.checked ≡ memory.old.checked) }
     ensures kept { OnOk result (IsMemory memory.new) }
-    ensures stored { IfOk result (λ answer. done answer (memory_in memory.new) ≡ stored_through (rows_of memory.old.checked) (memory_in memory.old) (pointer_value frame offset) value.now) }
+    ensures stored { IfOk result
+        (λ answer. done answer (memory_in memory.new)
+        ≡ stored_through (rows_of memory.old.checked) (memory_in memory.old) (pointer_value frame offset) value.now) }
 {
     let size = width(value);
     memory.store_cell(alloc, frame, offset, value, size)
@@ -77,7 +81,8 @@ fn store_in(
     ensures checked { OnOk result (memory.new.checked ≡ memory.old.checked) }
     ensures kept { OnOk result (IsMemory memory.new) }
     ensures stored { IfOk result (λ answer. done answer (memory_in memory.new)
-        ≡ after_statement (rows_of memory.old.checked) (Store (Address cell.0 cell.1) (term_of term.now)) (memory_in memory.old)) }
+        ≡ after_statement (rows_of memory.old.checked) (Store (Address cell.0 cell.1) (term_of term.now))
+        (memory_in memory.old)) }
 {
     let (value, faults) = evaluate(alloc, memory, term)?;
     let Some(value) = value else {
@@ -99,7 +104,8 @@ fn store(
     ensures checked { OnOk result (memory.new.checked ≡ memory.old.checked) }
     ensures kept { OnOk result (IsMemory memory.new) }
     ensures stored { IfOk result (λ answer. done answer (memory_in memory.new)
-        ≡ after_statement (rows_of memory.old.checked) (Store (term_of to.now) (term_of term.now)) (memory_in memory.old)) }
+        ≡ after_statement (rows_of memory.old.checked) (Store (term_of to.now) (term_of term.now))
+        (memory_in memory.old)) }
 {
     if let Some(cell) = address_of(to) {
         return store_in(alloc, memory, cell, term);
@@ -126,7 +132,9 @@ fn do_statement(
     requires kept { IsMemory memory.old }
     ensures checked { OnOk result (memory.new.checked ≡ memory.old.checked) }
     ensures kept { OnOk result (IsMemory memory.new) }
-    ensures done { IfOk result (λ answer. done answer (memory_in memory.new) ≡ after_statement (rows_of memory.old.checked) (act_of act.now) (memory_in memory.old)) }
+    ensures done { IfOk result
+        (λ answer. done answer (memory_in memory.new)
+        ≡ after_statement (rows_of memory.old.checked) (act_of act.now) (memory_in memory.old)) }
 {
     match act {
         Act::Null => Ok((true, FaultSet::none())),
@@ -145,7 +153,9 @@ pub fn do_statements(
     requires kept { IsMemory memory.old }
     ensures checked { OnOk result (memory.new.checked ≡ memory.old.checked) }
     ensures kept { OnOk result (IsMemory memory.new) }
-    ensures done { IfOk result (λ answer. done answer (memory_in memory.new) ≡ after_statements (rows_of memory.old.checked) (map act_of acts.now) (memory_in memory.old)) }
+    ensures done { IfOk result
+        (λ answer. done answer (memory_in memory.new)
+        ≡ after_statements (rows_of memory.old.checked) (map act_of acts.now) (memory_in memory.old)) }
 {
     let mut faults = FaultSet::none();
     let mut rest = acts;

@@ -60,7 +60,8 @@ products_place p q h k =
     record { progression = products_is p q h.progression k.progression; low = omega (arith, ints, clamps, a.0, b.0, c.0, d.0); high = omega (arith, ints, clamps, a.1, b.1, c.1, d.1) }
 
 -- a number of that kind times a unit of at most 2 to the 63
-scaled : (x d : ℤ) → neg_ℤ (pos (2 ^ 63)) <ℤ x → x <ℤ pos (2 ^ 63) → pos 0 ≤ℤ d → d ≤ℤ pos (2 ^ 63) → ((neg_ℤ (pos (2 ^ 126)) +ℤ pos (2 ^ 63)) ≤ℤ (x *ℤ d)) × ((x *ℤ d) ≤ℤ (pos (2 ^ 126) -ℤ pos (2 ^ 63)))
+scaled : (x d : ℤ) → neg_ℤ (pos (2 ^ 63)) <ℤ x → x <ℤ pos (2 ^ 63) → pos 0 ≤ℤ d → d ≤ℤ pos (2 ^ 63)
+    → ((neg_ℤ (pos (2 ^ 126)) +ℤ pos (2 ^ 63)) ≤ℤ (x *ℤ d)) × ((x *ℤ d) ≤ℤ (pos (2 ^ 126) -ℤ pos (2 ^ 63)))
 scaled x d low high rising small =
     let r = product_between (pos 1 -ℤ pos (2 ^ 63)) (pos (2 ^ 63) -ℤ pos 1) (pos 0) (pos (2 ^ 63)) x d (omega (arith, ints, low)) (omega (arith, ints, high)) rising small in
     (omega (arith, ints, clamps, r.0), omega (arith, ints, clamps, r.1))
@@ -74,7 +75,8 @@ sum_fits x d y rising small n m = let r = scaled x d n.low n.high rising small i
 pub step_fits : (x d y : ℤ) → pos 0 ≤ℤ d → d ≤ℤ pos (2 ^ 63) → IsNear x → IsNear y → FitsSigned w128 (gcd (x *ℤ d) y)
 step_fits x d y rising small n m = let r = scaled x d n.low n.high rising small in gcd_fits (x *ℤ d) y (omega (arith, ints, r.0, r.1)) (omega (arith, ints, m.low, m.high))
 
-pub above_place : (d : ℤ) (p q : Progression) → pos 0 ≤ℤ d → d ≤ℤ pos (2 ^ 63) → IsHalf p → IsHalf q → CanPlace (above d p q)
+pub above_place : (d : ℤ) (p q : Progression) → pos 0 ≤ℤ d → d ≤ℤ pos (2 ^ 63) → IsHalf p → IsHalf q
+    → CanPlace (above d p q)
 unfolding above
 above_place (pos d) p q rising small h k =
     let a = scaled p.lo (pos d) (near_lo p h).low (near_lo p h).high rising small in

@@ -28,7 +28,8 @@ piece_small p i = let s = step_width p i.progression in record {
   near = omega (arith, ints, s, i.low, i.high);
 }
 
-inside_piece : (least most : ℤ) (p : Progression) (o : Option Progression) → IsPiece least most p → IfProgression o → ((n : ℤ) → HasSome o n → Has p n) → IfPiece least most o
+inside_piece : (least most : ℤ) (p : Progression) (o : Option Progression) → IsPiece least most p → IfProgression o
+    → ((n : ℤ) → HasSome o n → Has p n) → IfPiece least most o
 inside_piece least most p None piece is inside = tt
 inside_piece least most p (Some q) piece is inside = record {
   progression = is;
@@ -36,13 +37,16 @@ inside_piece least most p (Some q) piece is inside = record {
   high = let h = inside q.hi (has_hi q is) in omega (arith, ints, h.most, piece.high);
 }
 
-part_piece : (part : Progression → Option Progression) (p : Progression) → IsPart part → IsFar p → IfPiece (neg_ℤ (pos (2 ^ 64))) (pos (2 ^ 64)) (part p)
+part_piece : (part : Progression → Option Progression) (p : Progression) → IsPart part → IsFar p
+    → IfPiece (neg_ℤ (pos (2 ^ 64))) (pos (2 ^ 64)) (part p)
 part_piece part p is i = inside_piece (neg_ℤ (pos (2 ^ 64))) (pos (2 ^ 64)) p (part p) i (is.is p i.progression) (λ n. is.inside p n i.progression)
 
-pub between_piece : (least greatest : ℤ) (p : Progression) → IsPiece (neg_ℤ (pos (2 ^ 64))) (pos (2 ^ 64)) p → IfPiece (neg_ℤ (pos (2 ^ 64))) (pos (2 ^ 64)) (between least greatest p)
+pub between_piece : (least greatest : ℤ) (p : Progression) → IsPiece (neg_ℤ (pos (2 ^ 64))) (pos (2 ^ 64)) p
+    → IfPiece (neg_ℤ (pos (2 ^ 64))) (pos (2 ^ 64)) (between least greatest p)
 between_piece least greatest p i = part_piece (between least greatest) p (between_part least greatest) i
 
-pub end_piece : (n : ℤ) (p : Progression) → IsPiece (neg_ℤ (pos (2 ^ 64))) (pos (2 ^ 64)) p → IfPiece (neg_ℤ (pos (2 ^ 64))) (pos (2 ^ 64)) (without_end n p)
+pub end_piece : (n : ℤ) (p : Progression) → IsPiece (neg_ℤ (pos (2 ^ 64))) (pos (2 ^ 64)) p
+    → IfPiece (neg_ℤ (pos (2 ^ 64))) (pos (2 ^ 64)) (without_end n p)
 end_piece n p i = part_piece (without_end n) p (end_part n) i
 
 pub steps_fit : (p q : Progression) → IsFar p → IsFar q → FitsSigned w128 (gcd p.step q.step)

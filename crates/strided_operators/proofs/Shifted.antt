@@ -30,26 +30,30 @@ use Rattle.strided_operators.specs.Limits.{CanPlace}
 sign_left : (x : ℤ) (d : ℕ) → 0 < d → neg_ℤ (pos d) ≤ℤ x → x <ℤ pos 0 → int_div_euclid x (pos d) ≡ neg_ℤ (pos 1)
 sign_left x d positive low below = (quotient_is x (neg_ℤ (pos 1)) (x +ℤ pos d) d positive (omega (arith, ints)) (omega (arith, ints, low)) (omega (arith, ints, below))).0
 
-none_left : (x : ℤ) (d : ℕ) → 0 < d → pos 0 ≤ℤ x → x <ℤ pos d → (int_div_euclid x (pos d) ≡ pos 0) × (int_rem_euclid x (pos d) ≡ x)
+none_left : (x : ℤ) (d : ℕ) → 0 < d → pos 0 ≤ℤ x → x <ℤ pos d
+    → (int_div_euclid x (pos d) ≡ pos 0) × (int_rem_euclid x (pos d) ≡ x)
 none_left x d positive low high = quotient_is x (pos 0) x d positive (omega (arith, ints)) low high
 
 wide : (k : ℕ) → 66 ≤ k → 2 ^ 66 ≤ 2 ^ k
 wide k high = pow_mono high
 
-quotient_past : (x : ℤ) (k : ℕ) → 66 ≤ k → neg_ℤ (pos (2 ^ 66)) ≤ℤ x → x <ℤ pos (2 ^ 66) → int_div_euclid x (pos (2 ^ 66)) ≡ int_div_euclid x (full k)
+quotient_past : (x : ℤ) (k : ℕ) → 66 ≤ k → neg_ℤ (pos (2 ^ 66)) ≤ℤ x → x <ℤ pos (2 ^ 66)
+    → int_div_euclid x (pos (2 ^ 66)) ≡ int_div_euclid x (full k)
 quotient_past x k past low high = by_test (int_lt x (pos 0))
     (λ t. let below : x <ℤ pos 0 = omega (arith, ints, t) in
     sign_left x (2 ^ 66) (pow_pos 66) low below ∙ sym (sign_left x (2 ^ k) (pow_pos k) (omega (arith, ints, low, wide k past)) below))
     (λ t. let rising : pos 0 ≤ℤ x = omega (arith, ints, t) in
     (none_left x (2 ^ 66) (pow_pos 66) rising high).0 ∙ sym (none_left x (2 ^ k) (pow_pos k) rising (omega (arith, ints, high, wide k past))).0)
 
-step_past : (s : ℤ) (k : ℕ) → 66 ≤ k → pos 0 ≤ℤ s → s <ℤ pos (2 ^ 66) → quotient_step (pos (2 ^ 66)) s ≡ quotient_step (full k) s
+step_past : (s : ℤ) (k : ℕ) → 66 ≤ k → pos 0 ≤ℤ s → s <ℤ pos (2 ^ 66)
+    → quotient_step (pos (2 ^ 66)) s ≡ quotient_step (full k) s
 step_past s k past rising high =
     let near = none_left s (2 ^ 66) (pow_pos 66) rising high in
     let far = none_left s (2 ^ k) (pow_pos k) rising (omega (arith, ints, high, wide k past)) in
     rw (near.0, near.1, far.0, far.1) refl
 
-pub quotients_past : (k : ℕ) (p : Progression) → 66 ≤ k → IsPiece (neg_ℤ (pos (2 ^ 64))) (pos (2 ^ 64)) p → quotients (pos (2 ^ 66)) p ≡ quotients (full k) p
+pub quotients_past : (k : ℕ) (p : Progression) → 66 ≤ k → IsPiece (neg_ℤ (pos (2 ^ 64))) (pos (2 ^ 64)) p
+    → quotients (pos (2 ^ 66)) p ≡ quotients (full k) p
 unfolding quotients
 quotients_past k p past i =
     let width = step_width p i.progression in
@@ -65,12 +69,14 @@ quotients_past k p past i =
 full_split : (w k : ℕ) → k < w → 2 ^ w ≡ 2 ^ (w - k) * 2 ^ k
 full_split w k below = ap (λ (n : ℕ). 2 ^ n) (let same : w ≡ w - k + k = omega (arith, below) in same) ∙ pow-add 2 (w - k) k
 
-pub round_shift : (w k : ℕ) (p : Progression) → k < w → full (w - k) ≤ℤ (p.hi -ℤ p.lo) → norm w (multiples (full k) p) ≡ whole w
+pub round_shift : (w k : ℕ) (p : Progression) → k < w → full (w - k) ≤ℤ (p.hi -ℤ p.lo)
+    → norm w (multiples (full k) p) ≡ whole w
 unfolding multiples
 round_shift w k p below round = norm_round w (multiples (full k) p)
     (omega (arith, ints, full_split w k below, difference_times p.hi p.lo (full k), times_rising (full (w - k)) (p.hi -ℤ p.lo) (full k) round (omega (arith, ints))))
 
-ends_same : (a b c d step : ℤ) → a ≡ b → c ≡ d → (let p : Progression = record { lo = a; hi = c; step = step } in p) ≡ record { lo = b; hi = d; step = step }
+ends_same : (a b c d step : ℤ) → a ≡ b → c ≡ d
+    → (let p : Progression = record { lo = a; hi = c; step = step } in p) ≡ record { lo = b; hi = d; step = step }
 ends_same a b c d step e f = rw (e, f) refl
 
 centered_moved : (w : ℕ) (n d : ℤ) → Divides (full w) d → centered w (n +ℤ d) ≡ centered w n
@@ -95,7 +101,8 @@ multiples_moved d c p =
     (λ t. let e : int_lt ((p.lo +ℤ c) *ℤ d) ((p.hi +ℤ c) *ℤ d) ≡ false = sym (omega (arith, ints, lo, hi, t)) in e ∙ sym t) in
     rw (test, lo, hi) refl
 
-pub low_shift : (w k : ℕ) (p : Progression) → k < w → (p.hi -ℤ p.lo) <ℤ full (w - k) → norm w (multiples (full k) (norm (w - k) p)) ≡ norm w (multiples (full k) p)
+pub low_shift : (w k : ℕ) (p : Progression) → k < w → (p.hi -ℤ p.lo) <ℤ full (w - k)
+    → norm w (multiples (full k) (norm (w - k) p)) ≡ norm w (multiples (full k) p)
 low_shift w k p below once =
     let v = w - k in
     let c = centered v p.lo -ℤ p.lo in
@@ -111,7 +118,8 @@ abbrev pub Near : ℤ → Type 0
 Near z = (neg_ℤ (pos (2 ^ 65)) ≤ℤ z) × (z ≤ℤ pos (2 ^ 65))
 
 -- what is at most two turns of the rest from 0 is, once shifted, at most two turns of the size
-near_shift : (w k : ℕ) (x : ℤ) → k < w → w ≤ 64 → (pos 0 -ℤ (full (w - k) +ℤ full (w - k))) ≤ℤ x → x ≤ℤ (full (w - k) +ℤ full (w - k)) → Near (x *ℤ full k)
+near_shift : (w k : ℕ) (x : ℤ) → k < w → w ≤ 64 → (pos 0 -ℤ (full (w - k) +ℤ full (w - k))) ≤ℤ x
+    → x ≤ℤ (full (w - k) +ℤ full (w - k)) → Near (x *ℤ full k)
 near_shift w k x below most low high =
     let split = full_split w k below in
     let f = full_most w most in

@@ -1,7 +1,8 @@
 //! The greatest and the least number of pieces.
 
 ghost use Rattle.std.specs.Prelude.{◌≡◌};
-ghost use Rattle.strided_rules.specs.Members.{greater_end as greater_end_of, lesser_end as lesser_end_of, greatest_of as greatest_of_all, least_of as least_of_all};
+ghost use Rattle.strided_rules.specs.Members.{greater_end as greater_end_of, lesser_end as lesser_end_of};
+ghost use Rattle.strided_rules.specs.Members.{greatest_of as greatest_of_all, least_of as least_of_all};
 
 use progressions::{Pieces, Progression};
 use whole_numbers::Whole;

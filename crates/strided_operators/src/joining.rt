@@ -29,7 +29,8 @@ fn shortest(p: &Progression, q: &Progression, p_up: &Progression, q_up: &Progres
     requires q_up { AreNear q_up.now }
     requires p_step { p_up.now.step ≡ p.now.step }
     requires q_step { q_up.now.step ≡ q.now.step }
-    ensures value { result ≡ shorter_of (shorter_of (hull_of p.now q.now) (hull_of p_up.now q.now)) (hull_of p.now q_up.now) }
+    ensures value { result
+        ≡ shorter_of (shorter_of (hull_of p.now q.now) (hull_of p_up.now q.now)) (hull_of p.now q_up.now) }
     ensures near { AreNear result }
 {
     let (first, second, third) = (width(p, q), width(p_up, q), width(p, q_up));

@@ -3,7 +3,8 @@
 ghost use Rattle.std.specs.Prelude.{◌≡◌, ◌≤◌, ◌^◌, pos, neg_ℤ};
 ghost use Rattle.progressions.specs.declared.ends.Progression.{Progression as Numbers};
 ghost use Rattle.progressions.specs.Parts.{IsPiece, IfPiece, ArePieces};
-ghost use Rattle.strided_rules.specs.Joins.{added as added_of, at_piece, over, each as each_of, each_pair as each_pair_of, IfPlaced};
+ghost use Rattle.strided_rules.specs.Joins.{added as added_of, at_piece, over, each as each_of};
+ghost use Rattle.strided_rules.specs.Joins.{each_pair as each_pair_of, IfPlaced};
 ghost use Rattle.strided_operators.specs.Limits.{CanPlace, IfTakes, TakesEach};
 
 use crate::joining::joined;
@@ -126,7 +127,8 @@ fn seconds_onto<R: PairRule>(
     requires most { size ≤ 64 }
     requires takes { IfTakes (λ p. TakesEach (R.takes_both rule.now p) seconds.now) piece }
     requires so_far { IfPlaced size so_far }
-    ensures value { result ≡ at_piece piece (λ p. over seconds.now (λ q. added_of size (R.gives_both rule.now p q))) so_far }
+    ensures value { result
+        ≡ at_piece piece (λ p. over seconds.now (λ q. added_of size (R.gives_both rule.now p q))) so_far }
     ensures placed { IfPlaced size result }
 {
     match piece {

@@ -3,7 +3,8 @@
 ghost use Rattle.std.specs.Prelude.{◌≤◌, ◌^◌, pos, neg_ℤ, ◌≤ℤ◌};
 ghost use Rattle.progressions.specs.Images.{products as products_of};
 ghost use Rattle.progressions.specs.Parts.{IsPiece};
-ghost use Rattle.strided_rules.specs.Rules.{above as above_of, ratios as ratios_of, lesser as lesser_of, greater as greater_of};
+ghost use Rattle.strided_rules.specs.Rules.{above as above_of, ratios as ratios_of, lesser as lesser_of};
+ghost use Rattle.strided_rules.specs.Rules.{greater as greater_of};
 ghost use Rattle.strided_operators.specs.Limits.{IsHalf};
 
 use crate::over::PairRule;

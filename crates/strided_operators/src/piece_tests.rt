@@ -3,7 +3,9 @@
 ghost use Rattle.std.specs.Prelude.{◌≡◌, ◌^◌, pos, neg_ℤ, Bool, Some};
 ghost use Rattle.progressions.specs.declared.ends.Progression.{Progression as Numbers};
 ghost use Rattle.progressions.specs.Parts.{IsPiece, IfPiece, ArePieces};
-ghost use Rattle.strided_rules.specs.Operators.{at_choice as at_choice_of, some_second as some_second_of, some_choice as some_choice_of, below as below_of, at_most as at_most_of, meet as meet_of};
+ghost use Rattle.strided_rules.specs.Operators.{at_choice as at_choice_of, some_second as some_second_of};
+ghost use Rattle.strided_rules.specs.Operators.{some_choice as some_choice_of, below as below_of};
+ghost use Rattle.strided_rules.specs.Operators.{at_most as at_most_of, meet as meet_of};
 
 use crate::meeting::meet;
 use progressions::{Pieces, Progression};

@@ -3,7 +3,9 @@
 ghost use Rattle.std.specs.Prelude.{◌≡◌, ◌≢◌, ◌≤◌, ◌<◌, ◌^◌, pos, ◌≤ℤ◌, ◌<ℤ◌};
 ghost use Rattle.progressions.specs.Images.{quotients as quotients_of};
 ghost use Rattle.progressions.specs.Progressions.{full};
-ghost use Rattle.strided_rules.specs.Rules.{rests as rests_of, toward_zero as toward_zero_of, signed_rests as signed_rests_of, least_rest as least_rest_of, greatest_rest as greatest_rest_of};
+ghost use Rattle.strided_rules.specs.Rules.{rests as rests_of, toward_zero as toward_zero_of};
+ghost use Rattle.strided_rules.specs.Rules.{signed_rests as signed_rests_of, least_rest as least_rest_of};
+ghost use Rattle.strided_rules.specs.Rules.{greatest_rest as greatest_rest_of};
 
 use crate::over::Rule;
 use progressions::Progression;

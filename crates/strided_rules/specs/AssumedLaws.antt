@@ -38,7 +38,8 @@ first_alone p = record { first = Some p; second = None; third = None }
 abbrev second_alone : Progression → Pieces
 second_alone p = record { first = None; second = Some p; third = None }
 
-same_progression : (p : Progression) (hi step : ℤ) → p.hi ≡ hi → p.step ≡ step → p ≡ record { lo = p.lo; hi = hi; step = step }
+same_progression : (p : Progression) (hi step : ℤ) → p.hi ≡ hi → p.step ≡ step
+    → p ≡ record { lo = p.lo; hi = hi; step = step }
 same_progression p hi step e f = rw (← e, ← f) refl
 
 pub lone_numbers : (x : Stride) → IsStride x → is_one x ≡ true → x.numbers ≡ lone x.numbers.lo
@@ -75,7 +76,8 @@ lone_unsigned w n positive low high =
     word_small : (v : ℕ) (z : ℤ) → word v z < 2 ^ v
     word_small v z = word_below v z
 
-lone_signed : (w : ℕ) (n : ℤ) → 1 ≤ w → neg_ℤ (half w) ≤ℤ n → n <ℤ half w → signed_pieces w (lone n) ≡ first_alone (lone n)
+lone_signed : (w : ℕ) (n : ℤ) → 1 ≤ w → neg_ℤ (half w) ≤ℤ n → n <ℤ half w
+    → signed_pieces w (lone n) ≡ first_alone (lone n)
 unfolding from_least up_to
 lone_signed w n positive low high =
     let a : int_le n (half w -ℤ pos 1) ≡ true = sym (omega (arith, ints, high)) in
@@ -83,7 +85,8 @@ lone_signed w n positive low high =
     let c : int_lt n (half w) ≡ true = sym (omega (arith, ints, high)) in
     rw (a, b, c) refl
 
-pub unsigned_alone : (x : Stride) → IsStride x → is_one x ≡ true → (unsigned_of x ≡ first_alone (lone (pos (word_of x)))) ⊎ (unsigned_of x ≡ second_alone (lone (pos (word_of x))))
+pub unsigned_alone : (x : Stride) → IsStride x → is_one x ≡ true
+    → (unsigned_of x ≡ first_alone (lone (pos (word_of x)))) ⊎ (unsigned_of x ≡ second_alone (lone (pos (word_of x))))
 unsigned_alone x s one =
     let n = x.numbers.lo in
     let pieces = lone_unsigned x.size n s.size.least s.placed.low s.placed.high in
@@ -102,7 +105,8 @@ low_reads x s =
     (divides_difference (full w) (n -ℤ pos t) (signed w t -ℤ pos t) (from_word w n) (signed_apart w t below)))
     (omega (arith, ints, h, r.0, s.placed.high)) (omega (arith, ints, h, r.1, s.placed.low))
 
-pub signed_alone : (x : Stride) → IsStride x → is_one x ≡ true → signed_of x ≡ first_alone (lone (signed x.size (word_of x)))
+pub signed_alone : (x : Stride) → IsStride x → is_one x ≡ true
+    → signed_of x ≡ first_alone (lone (signed x.size (word_of x)))
 signed_alone x s one =
     let n = x.numbers.lo in
     let pieces = lone_signed x.size n s.size.least s.placed.low s.placed.high in
@@ -115,29 +119,35 @@ abbrev rest_value : ℕ → Option Progression → Option Stride
 rest_value w None = None
 rest_value w (Some q) = Some (record { size = w; numbers = norm w q })
 
-first_rest : (w : ℕ) (part : Progression → Option Progression) (p : Progression) → rest_of w part (first_alone p) ≡ rest_value w (part p)
+first_rest : (w : ℕ) (part : Progression → Option Progression) (p : Progression)
+    → rest_of w part (first_alone p) ≡ rest_value w (part p)
 unfolding each
 first_rest w part p = by_part (part p)
   where
-    by_part : (o : Option Progression) → kept_value w (each w (λ q. q) (record { first = o; second = None; third = None })) ≡ rest_value w o
+    by_part : (o : Option Progression)
+        → kept_value w (each w (λ q. q) (record { first = o; second = None; third = None })) ≡ rest_value w o
     by_part None = refl
     by_part (Some q) = refl
 
-second_rest : (w : ℕ) (part : Progression → Option Progression) (p : Progression) → rest_of w part (second_alone p) ≡ rest_value w (part p)
+second_rest : (w : ℕ) (part : Progression → Option Progression) (p : Progression)
+    → rest_of w part (second_alone p) ≡ rest_value w (part p)
 unfolding each
 second_rest w part p = by_part (part p)
   where
-    by_part : (o : Option Progression) → kept_value w (each w (λ q. q) (record { first = None; second = o; third = None })) ≡ rest_value w o
+    by_part : (o : Option Progression)
+        → kept_value w (each w (λ q. q) (record { first = None; second = o; third = None })) ≡ rest_value w o
     by_part None = refl
     by_part (Some q) = refl
 
-pub unsigned_rest_one : (x : Stride) (part : Progression → Option Progression) → IsStride x → is_one x ≡ true → rest_of x.size part (unsigned_of x) ≡ rest_value x.size (part (lone (pos (word_of x))))
+pub unsigned_rest_one : (x : Stride) (part : Progression → Option Progression) → IsStride x → is_one x ≡ true
+    → rest_of x.size part (unsigned_of x) ≡ rest_value x.size (part (lone (pos (word_of x))))
 unsigned_rest_one x part s one = ⊎_elim
     (λ e. ap (rest_of x.size part) e ∙ first_rest x.size part (lone (pos (word_of x))))
     (λ e. ap (rest_of x.size part) e ∙ second_rest x.size part (lone (pos (word_of x))))
     (unsigned_alone x s one)
 
-pub signed_rest_one : (x : Stride) (part : Progression → Option Progression) → IsStride x → is_one x ≡ true → rest_of x.size part (signed_of x) ≡ rest_value x.size (part (lone (signed x.size (word_of x))))
+pub signed_rest_one : (x : Stride) (part : Progression → Option Progression) → IsStride x → is_one x ≡ true
+    → rest_of x.size part (signed_of x) ≡ rest_value x.size (part (lone (signed x.size (word_of x))))
 signed_rest_one x part s one = ap (rest_of x.size part) (signed_alone x s one) ∙ first_rest x.size part (lone (signed x.size (word_of x)))
 
 between_lone : (least greatest n : ℤ) → least ≤ℤ n → n ≤ℤ greatest → between least greatest (lone n) ≡ Some (lone n)
@@ -188,16 +198,19 @@ signed_least_one y s one =
 
 -- ---- the members between two numbers
 
-unsigned_kept : (x : Stride) (s : ℕ) (low high : ℤ) → IsStride x → Covers x s → low ≤ℤ pos s → pos s ≤ℤ high → Gives stride_sets (unsigned_between x low high) s
+unsigned_kept : (x : Stride) (s : ℕ) (low high : ℤ) → IsStride x → Covers x s → low ≤ℤ pos s → pos s ≤ℤ high
+    → Gives stride_sets (unsigned_between x low high) s
 unsigned_kept x s low high kept h p q = subst (Gives stride_sets (unsigned_between x low high)) (word_itself x.size s (member_below x.size x.numbers s h))
     (rest_gives x.size (between low high) (pos 0) (full x.size -ℤ pos 1) (pos s) (unsigned_of x) kept.size.least (between_part low high) (between_keeps low high (pos s) p q) (of_unsigned x kept) (unsigned_some x s kept h))
 
-signed_kept : (x : Stride) (s : ℕ) (low high : ℤ) → IsStride x → Covers x s → low ≤ℤ signed x.size s → signed x.size s ≤ℤ high → Gives stride_sets (signed_between x low high) s
+signed_kept : (x : Stride) (s : ℕ) (low high : ℤ) → IsStride x → Covers x s → low ≤ℤ signed x.size s
+    → signed x.size s ≤ℤ high → Gives stride_sets (signed_between x low high) s
 signed_kept x s low high kept h p q = subst (Gives stride_sets (signed_between x low high)) (word_signed x.size s (member_below x.size x.numbers s h))
     (rest_gives x.size (between low high) (neg_ℤ (half x.size)) (half x.size -ℤ pos 1) (signed x.size s) (signed_of x) kept.size.least (between_part low high) (between_keeps low high (signed x.size s) p q) (of_signed x kept) (signed_some x s kept h))
 
 -- what a part of one number gives
-one_given : (w : ℕ) (n : ℤ) (s : ℕ) (o : Option Progression) (answer : Option Stride) → 1 ≤ w → word w n ≡ s → o ≡ Some (lone n) → answer ≡ rest_value w o → GivesOnly stride_sets answer s
+one_given : (w : ℕ) (n : ℤ) (s : ℕ) (o : Option Progression) (answer : Option Stride) → 1 ≤ w → word w n ≡ s
+    → o ≡ Some (lone n) → answer ≡ rest_value w o → GivesOnly stride_sets answer s
 one_given w n s o answer positive e f g =
     (record { size = w; numbers = norm w (lone n) }, g ∙ ap (rest_value w) f, subst (IsOnly stride_sets (record { size = w; numbers = norm w (lone n) })) e (lone_only w n positive))
 
@@ -205,13 +218,15 @@ one_given w n s o answer positive e f g =
 one_of : (x : Stride) (s : ℕ) → IsStride x → IsOnly stride_sets x s → (is_one x ≡ true) × (word_of x ≡ s)
 one_of x s kept h = let one = sharp_one x s kept h in (one, sym (one_word_alone x s one h.is))
 
-unsigned_sharp : (x : Stride) (s : ℕ) (low high : ℤ) → IsStride x → IsOnly stride_sets x s → low ≤ℤ pos s → pos s ≤ℤ high → GivesOnly stride_sets (unsigned_between x low high) s
+unsigned_sharp : (x : Stride) (s : ℕ) (low high : ℤ) → IsStride x → IsOnly stride_sets x s → low ≤ℤ pos s
+    → pos s ≤ℤ high → GivesOnly stride_sets (unsigned_between x low high) s
 unsigned_sharp x s low high kept h p q =
     let one = one_of x s kept h in
     one_given x.size (pos s) s (between low high (lone (pos s))) (unsigned_between x low high) kept.size.least (word_itself x.size s (member_below x.size x.numbers s h.is)) (between_lone low high (pos s) p q)
     (unsigned_rest_one x (between low high) kept one.0 ∙ ap (λ (t : ℕ). rest_value x.size (between low high (lone (pos t)))) one.1)
 
-signed_sharp : (x : Stride) (s : ℕ) (low high : ℤ) → IsStride x → IsOnly stride_sets x s → low ≤ℤ signed x.size s → signed x.size s ≤ℤ high → GivesOnly stride_sets (signed_between x low high) s
+signed_sharp : (x : Stride) (s : ℕ) (low high : ℤ) → IsStride x → IsOnly stride_sets x s → low ≤ℤ signed x.size s
+    → signed x.size s ≤ℤ high → GivesOnly stride_sets (signed_between x low high) s
 signed_sharp x s low high kept h p q =
     let one = one_of x s kept h in
     one_given x.size (signed x.size s) s (between low high (lone (signed x.size s))) (signed_between x low high) kept.size.least (word_signed x.size s (member_below x.size x.numbers s h.is)) (between_lone low high (signed x.size s) p q)
@@ -224,12 +239,14 @@ IsOutside low high n = (n <ℤ low) ⊎ ((low ≤ℤ n) × (high <ℤ n))
 outside_none : (low high n : ℤ) → IsOutside low high n → between low high (lone n) ≡ None
 outside_none low high n out = ⊎_elim (λ e. below_lone low high n e) (λ e. past_lone low high n e.0 e.1) out
 
-unsigned_none : (x : Stride) (s : ℕ) (low high : ℤ) → IsStride x → IsOnly stride_sets x s → IsOutside low high (pos s) → unsigned_between x low high ≡ None
+unsigned_none : (x : Stride) (s : ℕ) (low high : ℤ) → IsStride x → IsOnly stride_sets x s → IsOutside low high (pos s)
+    → unsigned_between x low high ≡ None
 unsigned_none x s low high kept h out =
     let one = one_of x s kept h in
     unsigned_rest_one x (between low high) kept one.0 ∙ ap (λ (t : ℕ). rest_value x.size (between low high (lone (pos t)))) one.1 ∙ ap (rest_value x.size) (outside_none low high (pos s) out)
 
-signed_none : (x : Stride) (s : ℕ) (low high : ℤ) → IsStride x → IsOnly stride_sets x s → IsOutside low high (signed x.size s) → signed_between x low high ≡ None
+signed_none : (x : Stride) (s : ℕ) (low high : ℤ) → IsStride x → IsOnly stride_sets x s
+    → IsOutside low high (signed x.size s) → signed_between x low high ≡ None
 signed_none x s low high kept h out =
     let one = one_of x s kept h in
     signed_rest_one x (between low high) kept one.0 ∙ ap (λ (t : ℕ). rest_value x.size (between low high (lone (signed x.size t)))) one.1 ∙ ap (rest_value x.size) (outside_none low high (signed x.size s) out)
@@ -291,10 +308,12 @@ top_one y t s one e = greatest_one y s one ∙ ap pos e
 bottom_one : (y : Stride) (t : ℕ) → IsStride y → is_one y ≡ true → word_of y ≡ t → unsigned_least y ≡ pos t
 bottom_one y t s one e = least_one y s one ∙ ap pos e
 
-signed_top_one : (x y : Stride) (t : ℕ) → x.size ≡ y.size → IsStride y → is_one y ≡ true → word_of y ≡ t → signed_greatest y ≡ signed x.size t
+signed_top_one : (x y : Stride) (t : ℕ) → x.size ≡ y.size → IsStride y → is_one y ≡ true → word_of y ≡ t
+    → signed_greatest y ≡ signed x.size t
 signed_top_one x y t same s one e = signed_greatest_one y s one ∙ ap (signed y.size) e ∙ ap (λ (n : ℕ). signed n t) (sym same)
 
-signed_bottom_one : (x y : Stride) (t : ℕ) → x.size ≡ y.size → IsStride y → is_one y ≡ true → word_of y ≡ t → signed_least y ≡ signed x.size t
+signed_bottom_one : (x y : Stride) (t : ℕ) → x.size ≡ y.size → IsStride y → is_one y ≡ true → word_of y ≡ t
+    → signed_least y ≡ signed x.size t
 signed_bottom_one x y t same s one e = signed_least_one y s one ∙ ap (signed y.size) e ∙ ap (λ (n : ℕ). signed n t) (sym same)
 
 assumed_u_lt : (x y : Stride) → IsStride x → IsStride y → IsAssumed stride_sets ULt x y (assumed ULt x y)
@@ -317,22 +336,26 @@ assumed_u_ge x y of_x of_y = unsigned_order UGe x y (unsigned_least y) (full x.s
     (λ s t k small r. (omega (arith, ints, bottom y t of_y k, leb-true t s (bit_true (nat_le t s) r)), omega (arith, ints, small)))
     (λ s t one e r. inl (omega (arith, ints, bottom_one y t of_y one e, leb-false t s (bit_fails (nat_le t s) r))))
 
-assumed_s_lt : (x y : Stride) → IsStride x → IsStride y → x.size ≡ y.size → IsAssumed stride_sets SLt x y (assumed SLt x y)
+assumed_s_lt : (x y : Stride) → IsStride x → IsStride y → x.size ≡ y.size
+    → IsAssumed stride_sets SLt x y (assumed SLt x y)
 assumed_s_lt x y of_x of_y same = signed_order SLt x y (neg_ℤ (half x.size)) (signed_greatest y -ℤ pos 1) of_x of_y
     (λ s t k small r. ((signed_range x.size s of_x.size.least small).0, omega (arith, ints, signed_top x y t same of_y k, bit_true (int_lt (signed x.size s) (signed x.size t)) r)))
     (λ s t small one e r. inr ((signed_range x.size s of_x.size.least small).0, omega (arith, ints, signed_top_one x y t same of_y one e, bit_fails (int_lt (signed x.size s) (signed x.size t)) r)))
 
-assumed_s_le : (x y : Stride) → IsStride x → IsStride y → x.size ≡ y.size → IsAssumed stride_sets SLe x y (assumed SLe x y)
+assumed_s_le : (x y : Stride) → IsStride x → IsStride y → x.size ≡ y.size
+    → IsAssumed stride_sets SLe x y (assumed SLe x y)
 assumed_s_le x y of_x of_y same = signed_order SLe x y (neg_ℤ (half x.size)) (signed_greatest y) of_x of_y
     (λ s t k small r. ((signed_range x.size s of_x.size.least small).0, omega (arith, ints, signed_top x y t same of_y k, bit_true (int_le (signed x.size s) (signed x.size t)) r)))
     (λ s t small one e r. inr ((signed_range x.size s of_x.size.least small).0, omega (arith, ints, signed_top_one x y t same of_y one e, bit_fails (int_le (signed x.size s) (signed x.size t)) r)))
 
-assumed_s_gt : (x y : Stride) → IsStride x → IsStride y → x.size ≡ y.size → IsAssumed stride_sets SGt x y (assumed SGt x y)
+assumed_s_gt : (x y : Stride) → IsStride x → IsStride y → x.size ≡ y.size
+    → IsAssumed stride_sets SGt x y (assumed SGt x y)
 assumed_s_gt x y of_x of_y same = signed_order SGt x y (signed_least y +ℤ pos 1) (half x.size -ℤ pos 1) of_x of_y
     (λ s t k small r. (omega (arith, ints, signed_bottom x y t same of_y k, bit_true (int_lt (signed x.size t) (signed x.size s)) r), omega (arith, ints, signed_range x.size s of_x.size.least small)))
     (λ s t small one e r. inl (omega (arith, ints, signed_bottom_one x y t same of_y one e, bit_fails (int_lt (signed x.size t) (signed x.size s)) r)))
 
-assumed_s_ge : (x y : Stride) → IsStride x → IsStride y → x.size ≡ y.size → IsAssumed stride_sets SGe x y (assumed SGe x y)
+assumed_s_ge : (x y : Stride) → IsStride x → IsStride y → x.size ≡ y.size
+    → IsAssumed stride_sets SGe x y (assumed SGe x y)
 assumed_s_ge x y of_x of_y same = signed_order SGe x y (signed_least y) (half x.size -ℤ pos 1) of_x of_y
     (λ s t k small r. (omega (arith, ints, signed_bottom x y t same of_y k, bit_true (int_le (signed x.size t) (signed x.size s)) r), omega (arith, ints, signed_range x.size s of_x.size.least small)))
     (λ s t small one e r. inl (omega (arith, ints, signed_bottom_one x y t same of_y one e, bit_fails (int_le (signed x.size t) (signed x.size s)) r)))
@@ -359,7 +382,8 @@ is_kept x t s = record {
 }
 
 -- the rules for one word of y, at that word
-equal_to : (x y : Stride) (t : ℕ) → IsStride x → ((u : ℕ) → Covers y u → u ≡ t) → IsAssumed stride_sets Eq x y (only x t)
+equal_to : (x y : Stride) (t : ℕ) → IsStride x → ((u : ℕ) → Covers y u → u ≡ t)
+    → IsAssumed stride_sets Eq x y (only x t)
 equal_to x y t of_x alone = record {
   size = only_size x t of_x;
   covering = λ s u h k r. let e : s ≡ t = eqb-true s u (bit_true (s == u) r) ∙ alone u k in
@@ -399,7 +423,8 @@ not_false false e = absurd (false≢true (sym e))
 unequal : (s t : ℕ) → (s == t) ≡ false → s ≢ t
 unequal s t e f = false≢true (sym e ∙ eq-eqb s t f)
 
-unequal_to : (x y : Stride) (t : ℕ) → IsStride x → ((u : ℕ) → Covers y u → u ≡ t) → IsAssumed stride_sets Neq x y (without x t)
+unequal_to : (x y : Stride) (t : ℕ) → IsStride x → ((u : ℕ) → Covers y u → u ≡ t)
+    → IsAssumed stride_sets Neq x y (without x t)
 unequal_to x y t of_x alone = record {
   size = without_size x t of_x;
   covering = λ s u h k r. without_gives x s t of_x h (λ e. unequal s u (not_true (s == u) (bit_true (not (s == u)) r)) (e ∙ sym (alone u k)));
@@ -429,7 +454,8 @@ assumed_neq x y of_x of_y = by_test (is_one y)
       sharp_none = λ s t h k r. absurd (false≢true (sym more ∙ sharp_one y t of_y k));
     }))
 
-pub is_assumed : (rel : Rel) (x y : Stride) → IsStride x → IsStride y → x.size ≡ y.size → IsAssumed stride_sets rel x y (assumed rel x y)
+pub is_assumed : (rel : Rel) (x y : Stride) → IsStride x → IsStride y → x.size ≡ y.size
+    → IsAssumed stride_sets rel x y (assumed rel x y)
 is_assumed Eq x y of_x of_y same = assumed_eq x y of_x of_y
 is_assumed Neq x y of_x of_y same = assumed_neq x y of_x of_y
 is_assumed ULt x y of_x of_y same = assumed_u_lt x y of_x of_y
@@ -460,7 +486,8 @@ lone_join w n =
     let b : int_lt (third.hi -ℤ third.lo) (n -ℤ n) ≡ false = sym (omega (arith, ints, s.order)) in
     rw (lone_hull n, a, b) refl
 
-pub joined_one : (x y : Stride) (t : ℕ) → IsStride x → IsStride y → x.size ≡ y.size → IsOnly stride_sets x t → IsOnly stride_sets y t → IsOnly stride_sets (joined x y) t
+pub joined_one : (x y : Stride) (t : ℕ) → IsStride x → IsStride y → x.size ≡ y.size → IsOnly stride_sets x t
+    → IsOnly stride_sets y t → IsOnly stride_sets (joined x y) t
 joined_one x y t of_x of_y same h k =
     let w = x.size in
     let one = one_of x t of_x h in

@@ -78,7 +78,9 @@ operand_good (t ∷ sizes) (a ∷ args) [] i s e sized of_args words = absurd wo
 operand_good (t ∷ sizes) (a ∷ args) (x ∷ xs) zero s e sized of_args words = record { kept = of_args a (first_member a args); size = sized.0 ∙ same_Some t s e; covers = words.0 }
 operand_good (t ∷ sizes) (a ∷ args) (x ∷ xs) (suc i) s e sized of_args words = operand_good sizes args xs i s e sized.1 (rest_kept a args of_args) words.1
 
-given_of : (layout : Layout) (m n h : ℕ) (args : List Stride) (xs : List ℕ) → HaveSizes stride_sets (operands_by_layout layout m n h) args → AreKept stride_sets args → HaveWords stride_sets args xs
+given_of : (layout : Layout) (m n h : ℕ) (args : List Stride) (xs : List ℕ)
+    → HaveSizes stride_sets (operands_by_layout layout m n h) args → AreKept stride_sets args
+    → HaveWords stride_sets args xs
     → Given layout m n (operand args 0) (operand args 1) (operand args 2) (slice_index xs 0) (slice_index xs 1) (slice_index xs 2)
 given_of Unary m n h args xs s k w = operand_good (m ∷ []) args xs 0 m refl s k w
 given_of Sum m n h args xs s k w = (operand_good (m ∷ m ∷ 1 ∷ []) args xs 0 m refl s k w, operand_good (m ∷ m ∷ 1 ∷ []) args xs 1 m refl s k w, operand_good (m ∷ m ∷ 1 ∷ []) args xs 2 1 refl s k w)
@@ -235,11 +237,13 @@ rule_good SMax m n h a b c x y z d g = λ typed size. good_as m (signed_pair m g
 
 -- ---- division
 
-u_div_good : (a b : Stride) (x y : ℕ) → IsStride a → IsStride b → Covers a x → Covers b y → y ≢ 0 → Good a.size (unsigned_pair a.size ratios a b) (word a.size (pos (x / y)))
+u_div_good : (a b : Stride) (x y : ℕ) → IsStride a → IsStride b → Covers a x → Covers b y → y ≢ 0
+    → Good a.size (unsigned_pair a.size ratios a b) (word a.size (pos (x / y)))
 u_div_good a b x y s t h k some = unsigned_pair_good a.size ratios a b x y (pos (x / y)) s.size s t h k
     (λ p q i j. ratios_is p q i.low i.progression j.progression) (λ p q i j u v. ratios_has p q (pos x) (pos y) i.low (omega (arith, ints, some)) u v)
 
-s_div_good : (a b : Stride) (x y : ℕ) → IsStride a → IsStride b → Covers a x → Covers b y → y ≢ 0 → Good a.size (s_div a b) (word a.size (int_div (signed a.size x) (signed b.size y)))
+s_div_good : (a b : Stride) (x y : ℕ) → IsStride a → IsStride b → Covers a x → Covers b y → y ≢ 0
+    → Good a.size (s_div a b) (word a.size (int_div (signed a.size x) (signed b.size y)))
 s_div_good a b x y s t h k some =
     let w = a.size in
     let r = int_div (signed w x) (signed b.size y) in
@@ -247,7 +251,8 @@ s_div_good a b x y s t h k some =
     by_word_good b y w (word w r) (λ d. signed_each w (toward_zero (signed b.size d)) a) s.size (word_below w r) k
     (signed_good w (toward_zero (signed b.size y)) a x r s.size s h (λ p i. toward_zero_is (signed b.size y) p) (λ p i u. toward_zero_has (signed b.size y) p (signed w x) other u))
 
-u_mod_good : (a b : Stride) (x y : ℕ) → IsStride a → IsStride b → Covers a x → Covers b y → y ≢ 0 → Good b.size (u_mod a b) (word b.size (pos x -ℤ (pos y *ℤ pos (x / y))))
+u_mod_good : (a b : Stride) (x y : ℕ) → IsStride a → IsStride b → Covers a x → Covers b y → y ≢ 0
+    → Good b.size (u_mod a b) (word b.size (pos x -ℤ (pos y *ℤ pos (x / y))))
 u_mod_good a b x y s t h k some =
     let w = b.size in
     let e : pos (x % y) ≡ pos x -ℤ (pos y *ℤ pos (x / y)) = omega (arith, ints, div-add-mod' x y) in
@@ -319,11 +324,13 @@ divided_good op m n h a b x y z d g k some =
     (rw (← k.size) (u_mod_good a b x y g.kept k.kept g.covers k.covers some))
     (rw (← g.size, ← k.size) (s_mod_good a b x y g.kept k.kept g.covers k.covers some)) op d
 
-two_operands : (op : Op) (sizes : List ℕ) → divides op ≡ true → operand_sizes op sizes ≡ slice_index sizes 0 ∷ slice_index sizes 1 ∷ []
+two_operands : (op : Op) (sizes : List ℕ) → divides op ≡ true
+    → operand_sizes op sizes ≡ slice_index sizes 0 ∷ slice_index sizes 1 ∷ []
 two_operands op sizes d = by_division (λ o. operand_sizes o sizes ≡ slice_index sizes 0 ∷ slice_index sizes 1 ∷ []) refl refl refl refl op d
 
 -- a divisor without 0 keeps each other word, and has a word that is not 0
-divisor_keeps : (b : Stride) (y : ℕ) → IsStride b → Covers b y → y ≢ 0 → (d : Stride) × (divisor b ≡ Some d) × Good b.size d y
+divisor_keeps : (b : Stride) (y : ℕ) → IsStride b → Covers b y → y ≢ 0
+    → (d : Stride) × (divisor b ≡ Some d) × Good b.size d y
 divisor_keeps b y t h some = by_test (has b 0)
     (λ e. rw e (let w = b.size in
     let small = member_below w b.numbers y h in
@@ -335,7 +342,8 @@ divisor_keeps b y t h some = by_test (has b 0)
     (g.0, g.1, record { kept = size.kept; size = size.size; covers = subst (Covers g.0) (word_itself w y small) g.2 })))
     (λ e. rw e (b, refl, record { kept = t; size = refl; covers = h }))
 
-number_of : (w : ℕ) (a b c : Option Progression) (d : Stride) (least most : ℤ) → IfPiece least most a → IfPiece least most b → IfPiece least most c
+number_of : (w : ℕ) (a b c : Option Progression) (d : Stride) (least most : ℤ) → IfPiece least most a
+    → IfPiece least most b → IfPiece least most c
     → kept_value w (each w (λ p. p) (record { first = a; second = b; third = c })) ≡ Some d → (n : ℤ) × SomeHas (record { first = a; second = b; third = c }) n
 unfolding each
 number_of w (Some p) b c d least most i j k e = (p.lo, inl (has_lo p i.progression))
@@ -351,11 +359,13 @@ end_drops p n is low h = by_test (is_same p.lo (pos 0))
     (λ f. let k : HasSome (without_last p) n = rw (e, f) at h in λ z. ((without_last_has p n is).0 k).1 (z ∙ sym (same_tells p.hi (pos 0) f)))
     (λ f. let k : Has p n = rw (e, f) at h in λ z. false≢true (sym e ∙ and_both (int_le p.lo (pos 0)) (int_le (pos 0) p.lo) (sym (omega (arith, ints, z, k.least))) (sym (omega (arith, ints, low))))))
 
-part_drops : (o : Option Progression) (most n : ℤ) → IfPiece (pos 0) most o → HasSome (part_of (without_end (pos 0)) o) n → (n ≢ pos 0) × HasSome o n
+part_drops : (o : Option Progression) (most n : ℤ) → IfPiece (pos 0) most o
+    → HasSome (part_of (without_end (pos 0)) o) n → (n ≢ pos 0) × HasSome o n
 part_drops None most n piece h = absurd h
 part_drops (Some p) most n piece h = (end_drops p n piece.progression piece.low h, (end_part (pos 0)).inside p n piece.progression h)
 
-parts_drop : (pieces : Pieces) (most n : ℤ) → ArePieces (pos 0) most pieces → SomeHas (parts_of (without_end (pos 0)) pieces) n → (n ≢ pos 0) × SomeHas pieces n
+parts_drop : (pieces : Pieces) (most n : ℤ) → ArePieces (pos 0) most pieces
+    → SomeHas (parts_of (without_end (pos 0)) pieces) n → (n ≢ pos 0) × SomeHas pieces n
 parts_drop pieces most n are some = ⊎_elim
     (λ (h : HasSome (part_of (without_end (pos 0)) pieces.first) n). let d = part_drops pieces.first most n are.first h in (d.0, inl d.1))
     (λ more. ⊎_elim
@@ -408,7 +418,8 @@ divisor_word b d t e = by_test (has b 0)
 
 -- ---- operands
 
-ones_alone : (args : List Stride) (xs : List ℕ) → all_one args ≡ true → HaveWords stride_sets args xs → map word_of args ≡ xs
+ones_alone : (args : List Stride) (xs : List ℕ) → all_one args ≡ true → HaveWords stride_sets args xs
+    → map word_of args ≡ xs
 ones_alone [] [] e words = refl
 ones_alone [] (x ∷ xs) e words = absurd words
 ones_alone (a ∷ args) [] e words = absurd words
@@ -418,7 +429,8 @@ ones_alone (a ∷ args) (x ∷ xs) e words =
     let g = ones_alone args xs h.1 words.1 in
     rw (g, ← f) refl
 
-ones_of : (args : List Stride) (xs : List ℕ) → AreKept stride_sets args → HaveOneWord stride_sets args xs → all_one args ≡ true
+ones_of : (args : List Stride) (xs : List ℕ) → AreKept stride_sets args → HaveOneWord stride_sets args xs
+    → all_one args ≡ true
 ones_of [] [] of_args words = refl
 ones_of [] (x ∷ xs) of_args words = absurd words
 ones_of (a ∷ args) [] of_args words = absurd words
@@ -439,7 +451,8 @@ some_words (a ∷ args) of_args =
 
 -- ---- operators at words
 
-divides_zero_test : (op : Op) (xs : List ℕ) → (DividesByZero op xs → ⊥) → (divides op && (slice_index xs 1 == 0)) ≡ false
+divides_zero_test : (op : Op) (xs : List ℕ) → (DividesByZero op xs → ⊥)
+    → (divides op && (slice_index xs 1 == 0)) ≡ false
 divides_zero_test op xs divides_not = by_test (divides op && (slice_index xs 1 == 0))
     (λ e. let h = both (divides op) (slice_index xs 1 == 0) e in absurd (divides_not (h.0, eqb-true (slice_index xs 1) 0 h.1)))
     (λ e. e)
@@ -451,10 +464,12 @@ known_gives op sizes xs typed divides_not =
     let small : value op sizes xs < 2 ^ size_of_result op sizes = word_below (size_of_result op sizes) _ in
     rw (divides_zero_test op xs divides_not) ((one_word (size_of_result op sizes) (value op sizes xs), refl, one_only (size_of_result op sizes) (value op sizes xs) size.least small), refl)
 
-known_divides : (op : Op) (sizes xs : List ℕ) → DividesByZero op xs → ((known op sizes xs).value ≡ None) × ((known op sizes xs).divide ≡ true)
+known_divides : (op : Op) (sizes xs : List ℕ) → DividesByZero op xs
+    → ((known op sizes xs).value ≡ None) × ((known op sizes xs).divide ≡ true)
 known_divides op sizes xs zero_divisor = rw (zero_divisor.0, zero_divisor.1) (refl, refl)
 
-known_size : (op : Op) (sizes xs : List ℕ) → IsSome (result_size op sizes) → GivesSize stride_sets (known op sizes xs).value (size_of_result op sizes)
+known_size : (op : Op) (sizes xs : List ℕ) → IsSome (result_size op sizes)
+    → GivesSize stride_sets (known op sizes xs).value (size_of_result op sizes)
 known_size op sizes xs typed d is = by_test (divides op && (slice_index xs 1 == 0))
     (λ e. absurd (none-some d (rw e at is)))
     (λ e. let same : one_word (size_of_result op sizes) (value op sizes xs) ≡ d = same_Some _ d (rw e at is) in
@@ -462,7 +477,8 @@ known_size op sizes xs typed d is = by_test (divides op && (slice_index xs 1 == 
 
 -- ---- operators by their rules
 
-typed_test : (op : Op) (sizes : List ℕ) → IsSome (result_size op sizes) → is_typed (layout_of op) (slice_index sizes 0) (slice_index sizes 1) (slice_index sizes 2) ≡ true
+typed_test : (op : Op) (sizes : List ℕ) → IsSome (result_size op sizes)
+    → is_typed (layout_of op) (slice_index sizes 0) (slice_index sizes 1) (slice_index sizes 2) ≡ true
 typed_test op sizes some = by_test (is_written_so (layout_of op) sizes)
     (λ e. (both (length sizes == size_count (layout_of op)) (is_typed (layout_of op) (slice_index sizes 0) (slice_index sizes 1) (slice_index sizes 2)) e).1)
     (λ e. absurd (false≢true (rw e at some)))
@@ -485,7 +501,8 @@ dividend op sizes args xs d sized of_args words =
       operand_good (slice_index sizes 0 ∷ slice_index sizes 1 ∷ []) args xs 1 (slice_index sizes 1) refl two of_args words,
     )
 
-by_divisor_good : (op : Op) (sizes : List ℕ) (a d : Stride) (x y z : ℕ) → divides op ≡ true → Good (slice_index sizes 0) a x → Good (slice_index sizes 1) d y → y ≢ 0
+by_divisor_good : (op : Op) (sizes : List ℕ) (a d : Stride) (x y z : ℕ) → divides op ≡ true
+    → Good (slice_index sizes 0) a x → Good (slice_index sizes 1) d y → y ≢ 0
     → Good (size_of_result op sizes) (ruled op sizes a d d) (word (size_of_result op sizes) (formula op (slice_index sizes 0) (slice_index sizes 1) (slice_index sizes 2) x y z))
 by_divisor_good op sizes a d x y z e g k some = divided_good op (slice_index sizes 0) (slice_index sizes 1) (slice_index sizes 2) a d x y z e g k some
 
@@ -503,7 +520,8 @@ divided_gives op sizes args xs d sized of_args words divides_not =
     let r = by_divisor_good op sizes (operand args 0) k.0 (slice_index xs 0) y (slice_index xs 2) d g.0 good some in
     rw k.1 (ruled op sizes (operand args 0) k.0 k.0, refl, r.covers)
 
-divided_size : (op : Op) (sizes : List ℕ) (args : List Stride) → divides op ≡ true → HaveSizes stride_sets (operand_sizes op sizes) args → AreKept stride_sets args
+divided_size : (op : Op) (sizes : List ℕ) (args : List Stride) → divides op ≡ true
+    → HaveSizes stride_sets (operand_sizes op sizes) args → AreKept stride_sets args
     → GivesSize stride_sets (divided op sizes (operand args 0) (operand args 1)).value (size_of_result op sizes)
 divided_size op sizes args d sized of_args r is =
     let words = some_words args of_args in

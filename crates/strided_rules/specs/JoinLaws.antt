@@ -14,11 +14,13 @@ use Rattle.strided_rules.specs.Joins.{added, at_piece, over, each, each_pair, So
 use Rattle.strided_rules.specs.PlacedLaws.{norm_member, norm_placed, join_first, join_second, join_placed, whole_placed}
 
 -- what was joined stays, and what is added comes in
-pub added_keeps : (w t : ℕ) (p : Progression) (so_far : Option Progression) → 1 ≤ w → SoFar w so_far t → SoFar w (added w p so_far) t
+pub added_keeps : (w t : ℕ) (p : Progression) (so_far : Option Progression) → 1 ≤ w → SoFar w so_far t
+    → SoFar w (added w p so_far) t
 added_keeps w t p None positive m = absurd m
 added_keeps w t p (Some q) positive m = join_first w q (norm w p) t positive m
 
-pub added_comes : (w : ℕ) (n : ℤ) (p : Progression) (so_far : Option Progression) → 1 ≤ w → Has p n → SoFar w (added w p so_far) (word w n)
+pub added_comes : (w : ℕ) (n : ℤ) (p : Progression) (so_far : Option Progression) → 1 ≤ w → Has p n
+    → SoFar w (added w p so_far) (word w n)
 added_comes w n p None positive h = norm_member w p n positive h
 added_comes w n p (Some q) positive h = join_second w q (norm w p) (word w n) positive (norm_member w p n positive h)
 
@@ -58,7 +60,8 @@ over_brings w t least most n f pieces so_far keeps brings are some =
     more)
     some
 
--- The join over the pieces has the word of m, where a piece has n and the rule takes pieces with n to progressions with m.
+-- The join over the pieces has the word of m, where a piece has n and the rule takes pieces with n to progressions with
+-- m.
 pub each_has : (w : ℕ) (rule : Progression → Progression) (least most : ℤ) (pieces : Pieces) (n m : ℤ) → 1 ≤ w
     → ArePieces least most pieces → SomeHas pieces n
     → ((p : Progression) → IsPiece least most p → Has p n → Has (rule p) m)
@@ -87,7 +90,8 @@ each_pair_has w rule least most low high firsts seconds n m r positive are some 
 
 -- Normal form.
 
-pub added_placed : (w : ℕ) (p : Progression) (so_far : Option Progression) → 1 ≤ w → IsProgression p → IfPlaced w so_far → IfPlaced w (added w p so_far)
+pub added_placed : (w : ℕ) (p : Progression) (so_far : Option Progression) → 1 ≤ w → IsProgression p → IfPlaced w so_far
+    → IfPlaced w (added w p so_far)
 added_placed w p None positive is placed = norm_placed w p positive is
 added_placed w p (Some q) positive is placed = join_placed w q (norm w p) positive placed.progression (norm_placed w p positive is).progression
 
@@ -108,7 +112,8 @@ over_places w least most f pieces so_far places are placed =
     at_places w least most f pieces.third two places are.third
     (at_places w least most f pieces.second one places are.second (at_places w least most f pieces.first so_far places are.first placed))
 
-pub each_placed : (w : ℕ) (rule : Progression → Progression) (least most : ℤ) (pieces : Pieces) → 1 ≤ w → ArePieces least most pieces
+pub each_placed : (w : ℕ) (rule : Progression → Progression) (least most : ℤ) (pieces : Pieces) → 1 ≤ w
+    → ArePieces least most pieces
     → ((p : Progression) → IsPiece least most p → IsProgression (rule p)) → IfPlaced w (each w rule pieces)
 unfolding each
 each_placed w rule least most pieces positive are one =

@@ -18,12 +18,14 @@ added w p None = Some (norm w p)
 added w p (Some so_far) = Some (join w so_far (norm w p))
 
 -- f where there is a piece
-abbrev pub at_piece : Option Progression → (Progression → Option Progression → Option Progression) → Option Progression → Option Progression
+abbrev pub at_piece : Option Progression → (Progression → Option Progression → Option Progression) → Option Progression
+    → Option Progression
 at_piece None f so_far = so_far
 at_piece (Some p) f so_far = f p so_far
 
 -- f at each piece in order
-abbrev pub over : Pieces → (Progression → Option Progression → Option Progression) → Option Progression → Option Progression
+abbrev pub over : Pieces → (Progression → Option Progression → Option Progression) → Option Progression
+    → Option Progression
 over pieces f so_far = at_piece pieces.third f (at_piece pieces.second f (at_piece pieces.first f so_far))
 
 -- the join over the pieces of what the rule gives

@@ -40,7 +40,8 @@ once_more w x y d e = divides_same (full w) (x +ℤ full w) y (sym e) (divides_s
 once_less : (w : ℕ) (x y : ℤ) → Divides (full w) x → y ≡ x -ℤ full w → Divides (full w) y
 once_less w x y d e = divides_same (full w) (x -ℤ full w) y (sym e) (divides_difference (full w) x (full w) d (divides_itself (full w)))
 
-pub three_numbers : (w : ℕ) (p : Progression) (t : ℕ) → 1 ≤ w → IsPlaced w p → IsMember w p t → Has p (pos t -ℤ full w) ⊎ (Has p (pos t) ⊎ Has p (pos t +ℤ full w))
+pub three_numbers : (w : ℕ) (p : Progression) (t : ℕ) → 1 ≤ w → IsPlaced w p → IsMember w p t
+    → Has p (pos t -ℤ full w) ⊎ (Has p (pos t) ⊎ Has p (pos t +ℤ full w))
 three_numbers w p t positive placed m =
     let n = m.number in
     let h = halves w positive in
@@ -60,7 +61,8 @@ three_numbers w p t positive placed m =
 pub signed_apart : (w t : ℕ) → t < 2 ^ w → Divides (full w) (signed w t -ℤ pos t)
 signed_apart w t below = let P : ℕ → Type 0 = λ u. Divides (full w) (signed w t -ℤ pos u) in subst P (word_signed w t below) (from_word w (signed w t))
 
-pub two_numbers : (w : ℕ) (p : Progression) (t : ℕ) → 1 ≤ w → IsPlaced w p → IsMember w p t → Has p (signed w t) ⊎ Has p (signed w t +ℤ full w)
+pub two_numbers : (w : ℕ) (p : Progression) (t : ℕ) → 1 ≤ w → IsPlaced w p → IsMember w p t
+    → Has p (signed w t) ⊎ Has p (signed w t +ℤ full w)
 two_numbers w p t positive placed m =
     let n = m.number in
     let s = signed w t in
@@ -113,7 +115,8 @@ pub or_right : (a b : Bool) → b ≡ true → (a || b) ≡ true
 or_right true b e = refl
 or_right false b e = e
 
-aligned_tells : (p : Progression) (n : ℤ) → IsProgression p → p.lo ≤ℤ n → n ≤ℤ p.hi → ((int_le p.hi p.lo || int_le (int_rem_euclid (n -ℤ p.lo) p.step) (pos 0)) ≡ true) ↔ Divides p.step (n -ℤ p.lo)
+aligned_tells : (p : Progression) (n : ℤ) → IsProgression p → p.lo ≤ℤ n → n ≤ℤ p.hi
+    → ((int_le p.hi p.lo || int_le (int_rem_euclid (n -ℤ p.lo) p.step) (pos 0)) ≡ true) ↔ Divides p.step (n -ℤ p.lo)
 aligned_tells p n is low high = by_test (int_le p.hi p.lo)
     (λ one. (λ e. divides_same p.step (pos 0) (n -ℤ p.lo) (omega (arith, ints, one, low, high)) (divides_zero p.step), λ d. or_left (int_le p.hi p.lo) _ one))
     (λ more. let positive = step_positive p is (omega (arith, ints, more)) in
@@ -205,7 +208,8 @@ pub record IsPart (part : Progression → Option Progression) : Type 0 where
   pub is : (p : Progression) → IsProgression p → IfProgression (part p)
   pub inside : (p : Progression) (n : ℤ) → IsProgression p → HasSome (part p) n → Has p n
 
-piece_inside : (least most : ℤ) (p : Progression) (o : Option Progression) → IsPiece least most p → IfProgression o → ((n : ℤ) → HasSome o n → Has p n) → IfPiece least most o
+piece_inside : (least most : ℤ) (p : Progression) (o : Option Progression) → IsPiece least most p → IfProgression o
+    → ((n : ℤ) → HasSome o n → Has p n) → IfPiece least most o
 piece_inside least most p None piece is inside = tt
 piece_inside least most p (Some q) piece is inside = record {
   progression = is;
@@ -213,11 +217,13 @@ piece_inside least most p (Some q) piece is inside = record {
   high = let h = inside q.hi (has_hi q is) in omega (arith, ints, h.most, piece.high);
 }
 
-part_is : (part : Progression → Option Progression) (least most : ℤ) (o : Option Progression) → IsPart part → IfPiece least most o → IfPiece least most (part_of part o)
+part_is : (part : Progression → Option Progression) (least most : ℤ) (o : Option Progression) → IsPart part
+    → IfPiece least most o → IfPiece least most (part_of part o)
 part_is part least most None parts piece = tt
 part_is part least most (Some p) parts piece = piece_inside least most p (part p) piece (parts.is p piece.progression) (λ n. parts.inside p n piece.progression)
 
-pub parts_are : (part : Progression → Option Progression) (least most : ℤ) (pieces : Pieces) → IsPart part → ArePieces least most pieces → ArePieces least most (parts_of part pieces)
+pub parts_are : (part : Progression → Option Progression) (least most : ℤ) (pieces : Pieces) → IsPart part
+    → ArePieces least most pieces → ArePieces least most (parts_of part pieces)
 parts_are part least most pieces parts are = record {
   first = part_is part least most pieces.first parts are.first;
   second = part_is part least most pieces.second parts are.second;
@@ -228,11 +234,13 @@ parts_are part least most pieces parts are = record {
 abbrev pub KeepsNumber : (Progression → Option Progression) → ℤ → Type 0
 KeepsNumber part n = (p : Progression) → IsProgression p → Has p n → HasSome (part p) n
 
-part_has : (part : Progression → Option Progression) (least most n : ℤ) (o : Option Progression) → KeepsNumber part n → IfPiece least most o → HasSome o n → HasSome (part_of part o) n
+part_has : (part : Progression → Option Progression) (least most n : ℤ) (o : Option Progression) → KeepsNumber part n
+    → IfPiece least most o → HasSome o n → HasSome (part_of part o) n
 part_has part least most n None keeps piece h = absurd h
 part_has part least most n (Some p) keeps piece h = keeps p piece.progression h
 
-pub parts_some : (part : Progression → Option Progression) (least most n : ℤ) (pieces : Pieces) → KeepsNumber part n → ArePieces least most pieces → SomeHas pieces n → SomeHas (parts_of part pieces) n
+pub parts_some : (part : Progression → Option Progression) (least most n : ℤ) (pieces : Pieces) → KeepsNumber part n
+    → ArePieces least most pieces → SomeHas pieces n → SomeHas (parts_of part pieces) n
 parts_some part least most n pieces keeps are some = ⊎_elim
     (λ (h : HasSome pieces.first n). inl (part_has part least most n pieces.first keeps are.first h))
     (λ more. ⊎_elim
@@ -250,12 +258,14 @@ value_size w None size placed d is = absurd (none-some d is)
 value_size w (Some p) size placed d is =
     subst (IsOfSize stride_sets w) (same_Some (record { size = w; numbers = p }) d is) (record { kept = record { size = size; placed = placed }; size = refl })
 
-pub rest_gives : (w : ℕ) (part : Progression → Option Progression) (least most n : ℤ) (pieces : Pieces) → 1 ≤ w → IsPart part → KeepsNumber part n → ArePieces least most pieces → SomeHas pieces n
+pub rest_gives : (w : ℕ) (part : Progression → Option Progression) (least most n : ℤ) (pieces : Pieces) → 1 ≤ w
+    → IsPart part → KeepsNumber part n → ArePieces least most pieces → SomeHas pieces n
     → Gives stride_sets (rest_of w part pieces) (word w n)
 rest_gives w part least most n pieces positive parts keeps are some = value_gives w (word w n) (each w (λ p. p) (parts_of part pieces))
     (each_has w (λ p. p) least most (parts_of part pieces) n n positive (parts_are part least most pieces parts are) (parts_some part least most n pieces keeps are some) (λ p piece h. h))
 
-pub rest_size : (w : ℕ) (part : Progression → Option Progression) (least most : ℤ) (pieces : Pieces) → IsWordSize w → IsPart part → ArePieces least most pieces → GivesSize stride_sets (rest_of w part pieces) w
+pub rest_size : (w : ℕ) (part : Progression → Option Progression) (least most : ℤ) (pieces : Pieces) → IsWordSize w
+    → IsPart part → ArePieces least most pieces → GivesSize stride_sets (rest_of w part pieces) w
 rest_size w part least most pieces size parts are = value_size w (each w (λ p. p) (parts_of part pieces)) size
     (each_placed w (λ p. p) least most (parts_of part pieces) size.least (parts_are part least most pieces parts are) (λ p piece. piece.progression))
 

@@ -52,7 +52,8 @@ settled_good w t o size placed m = record { kept = settled_is w o size placed; s
 pub good_as : (w : ℕ) (x : Stride) (t u : ℕ) → t ≡ u → Good w x t → Good w x u
 good_as w x t u e g = record { kept = g.kept; size = g.size; covers = subst (Covers x) e g.covers }
 
-pub norm_good : (w : ℕ) (p : Progression) (n : ℤ) → IsWordSize w → IsProgression p → Has p n → Good w (record { size = w; numbers = norm w p }) (word w n)
+pub norm_good : (w : ℕ) (p : Progression) (n : ℤ) → IsWordSize w → IsProgression p → Has p n
+    → Good w (record { size = w; numbers = norm w p }) (word w n)
 norm_good w p n size is h = record { kept = record { size = size; placed = norm_placed w p size.least is }; size = refl; covers = norm_member w p n size.least h }
 
 pub one_good : (w t : ℕ) → IsWordSize w → t < 2 ^ w → Good w (one_word w t) t
@@ -67,19 +68,22 @@ IsUnsigned a p = IsPiece (pos 0) (full a.size -ℤ pos 1) p
 abbrev IsSigned : Stride → Progression → Type 0
 IsSigned a p = IsPiece (neg_ℤ (half a.size)) (half a.size -ℤ pos 1) p
 
-pub unsigned_good : (w : ℕ) (rule : Progression → Progression) (a : Stride) (x : ℕ) (r : ℤ) → IsWordSize w → IsStride a → Covers a x
+pub unsigned_good : (w : ℕ) (rule : Progression → Progression) (a : Stride) (x : ℕ) (r : ℤ) → IsWordSize w → IsStride a
+    → Covers a x
     → ((p : Progression) → IsUnsigned a p → IsProgression (rule p)) → ((p : Progression) → IsUnsigned a p → Has p (pos x) → Has (rule p) r) → Good w (unsigned_each w rule a) (word w r)
 unsigned_good w rule a x r size s h is one = settled_good w (word w r) (each w rule (unsigned_of a)) size
     (each_placed w rule (pos 0) (full a.size -ℤ pos 1) (unsigned_of a) size.least (of_unsigned a s) is)
     (each_has w rule (pos 0) (full a.size -ℤ pos 1) (unsigned_of a) (pos x) r size.least (of_unsigned a s) (unsigned_some a x s h) one)
 
-pub signed_good : (w : ℕ) (rule : Progression → Progression) (a : Stride) (x : ℕ) (r : ℤ) → IsWordSize w → IsStride a → Covers a x
+pub signed_good : (w : ℕ) (rule : Progression → Progression) (a : Stride) (x : ℕ) (r : ℤ) → IsWordSize w → IsStride a
+    → Covers a x
     → ((p : Progression) → IsSigned a p → IsProgression (rule p)) → ((p : Progression) → IsSigned a p → Has p (signed a.size x) → Has (rule p) r) → Good w (signed_each w rule a) (word w r)
 signed_good w rule a x r size s h is one = settled_good w (word w r) (each w rule (signed_of a)) size
     (each_placed w rule (neg_ℤ (half a.size)) (half a.size -ℤ pos 1) (signed_of a) size.least (of_signed a s) is)
     (each_has w rule (neg_ℤ (half a.size)) (half a.size -ℤ pos 1) (signed_of a) (signed a.size x) r size.least (of_signed a s) (signed_some a x s h) one)
 
-pub unsigned_pair_good : (w : ℕ) (rule : Progression → Progression → Progression) (a b : Stride) (x y : ℕ) (r : ℤ) → IsWordSize w → IsStride a → IsStride b → Covers a x → Covers b y
+pub unsigned_pair_good : (w : ℕ) (rule : Progression → Progression → Progression) (a b : Stride) (x y : ℕ) (r : ℤ)
+    → IsWordSize w → IsStride a → IsStride b → Covers a x → Covers b y
     → ((p q : Progression) → IsUnsigned a p → IsUnsigned b q → IsProgression (rule p q))
     → ((p q : Progression) → IsUnsigned a p → IsUnsigned b q → Has p (pos x) → Has q (pos y) → Has (rule p q) r) → Good w (unsigned_pair w rule a b) (word w r)
 unsigned_pair_good w rule a b x y r size s t h k is one = settled_good w (word w r) (each_pair w rule (unsigned_of a) (unsigned_of b)) size
@@ -87,7 +91,8 @@ unsigned_pair_good w rule a b x y r size s t h k is one = settled_good w (word w
     (each_pair_has w rule (pos 0) (full a.size -ℤ pos 1) (pos 0) (full b.size -ℤ pos 1) (unsigned_of a) (unsigned_of b) (pos x) (pos y) r size.least
     (of_unsigned a s) (unsigned_some a x s h) (of_unsigned b t) (unsigned_some b y t k) one)
 
-pub signed_pair_good : (w : ℕ) (rule : Progression → Progression → Progression) (a b : Stride) (x y : ℕ) (r : ℤ) → IsWordSize w → IsStride a → IsStride b → Covers a x → Covers b y
+pub signed_pair_good : (w : ℕ) (rule : Progression → Progression → Progression) (a b : Stride) (x y : ℕ) (r : ℤ)
+    → IsWordSize w → IsStride a → IsStride b → Covers a x → Covers b y
     → ((p q : Progression) → IsSigned a p → IsSigned b q → IsProgression (rule p q))
     → ((p q : Progression) → IsSigned a p → IsSigned b q → Has p (signed a.size x) → Has q (signed b.size y) → Has (rule p q) r) → Good w (signed_pair w rule a b) (word w r)
 signed_pair_good w rule a b x y r size s t h k is one = settled_good w (word w r) (each_pair w rule (signed_of a) (signed_of b)) size
@@ -96,7 +101,8 @@ signed_pair_good w rule a b x y r size s t h k is one = settled_good w (word w r
     (of_signed a s) (signed_some a x s h) (of_signed b t) (signed_some b y t k) one)
 
 -- where the second operand is one word
-pub by_word_good : (b : Stride) (y w t : ℕ) (f : ℕ → Stride) → IsWordSize w → t < 2 ^ w → Covers b y → Good w (f y) t → Good w (by_word b w f) t
+pub by_word_good : (b : Stride) (y w t : ℕ) (f : ℕ → Stride) → IsWordSize w → t < 2 ^ w → Covers b y → Good w (f y) t
+    → Good w (by_word b w f) t
 by_word_good b y w t f size small h g = by_test (is_one b)
     (λ one. rw one (subst (λ (u : ℕ). Good w (f u) t) (one_word_alone b y one h) g))
     (λ more. rw more (every_good w t size small))
@@ -113,7 +119,8 @@ neg_good a x s h =
     (norm_good w (negated a.numbers) (neg_ℤ n) s.size (negated_is a.numbers s.placed.progression)
     ((negated_has a.numbers (neg_ℤ n) s.placed.progression).1 (subst (Has a.numbers) (let f : n ≡ neg_ℤ (neg_ℤ n) = omega (arith, ints) in f) h.has)))
 
-pub complement_good : (a : Stride) (x : ℕ) → IsStride a → Covers a x → Good a.size (complement a) (word a.size (pos (2 ^ a.size - 1 - x)))
+pub complement_good : (a : Stride) (x : ℕ) → IsStride a → Covers a x
+    → Good a.size (complement a) (word a.size (pos (2 ^ a.size - 1 - x)))
 complement_good a x s h =
     let w = a.size in
     let n = h.number in
@@ -126,29 +133,35 @@ complement_good a x s h =
     (has_moved (negated a.numbers) (neg_ℤ (pos 1)) (neg_ℤ n)
     ((negated_has a.numbers (neg_ℤ n) s.placed.progression).1 (subst (Has a.numbers) (let f : n ≡ neg_ℤ (neg_ℤ n) = omega (arith, ints) in f) h.has))))
 
-carry_placed : (w : ℕ) (c : Stride) (sum : ℤ → Progression) (t : ℕ) (o : Option Progression) → 1 ≤ w → IsProgression (sum (pos t)) → IfPlaced w o → IfPlaced w (with_carry w c sum t o)
+carry_placed : (w : ℕ) (c : Stride) (sum : ℤ → Progression) (t : ℕ) (o : Option Progression) → 1 ≤ w
+    → IsProgression (sum (pos t)) → IfPlaced w o → IfPlaced w (with_carry w c sum t o)
 carry_placed w c sum t o positive is placed = by_test (has c t) (λ e. rw e (added_placed w (sum (pos t)) o positive is placed)) (λ e. rw e placed)
 
-carry_keeps : (w : ℕ) (c : Stride) (sum : ℤ → Progression) (t u : ℕ) (o : Option Progression) → 1 ≤ w → SoFar w o u → SoFar w (with_carry w c sum t o) u
+carry_keeps : (w : ℕ) (c : Stride) (sum : ℤ → Progression) (t u : ℕ) (o : Option Progression) → 1 ≤ w → SoFar w o u
+    → SoFar w (with_carry w c sum t o) u
 carry_keeps w c sum t u o positive m = by_test (has c t) (λ e. rw e (added_keeps w u (sum (pos t)) o positive m)) (λ e. rw e m)
 
-carry_comes : (w : ℕ) (c : Stride) (sum : ℤ → Progression) (t : ℕ) (o : Option Progression) (r : ℤ) → 1 ≤ w → has c t ≡ true → Has (sum (pos t)) r → SoFar w (with_carry w c sum t o) (word w r)
+carry_comes : (w : ℕ) (c : Stride) (sum : ℤ → Progression) (t : ℕ) (o : Option Progression) (r : ℤ) → 1 ≤ w
+    → has c t ≡ true → Has (sum (pos t)) r → SoFar w (with_carry w c sum t o) (word w r)
 carry_comes w c sum t o r positive e h = rw e (added_comes w r (sum (pos t)) o positive h)
 
-carry_some : (w : ℕ) (c : Stride) (sum : ℤ → Progression) (z : ℕ) (r : ℤ) → 1 ≤ w → IsStride c → Covers c z → z < 2 → Has (sum (pos z)) r
+carry_some : (w : ℕ) (c : Stride) (sum : ℤ → Progression) (z : ℕ) (r : ℤ) → 1 ≤ w → IsStride c → Covers c z → z < 2
+    → Has (sum (pos z)) r
     → SoFar w (with_carry w c sum 1 (with_carry w c sum 0 None)) (word w r)
 carry_some w c sum zero r positive s h small there =
     carry_keeps w c sum 1 (word w r) (with_carry w c sum 0 None) positive (carry_comes w c sum 0 None r positive ((has_tells c 0 s).1 h) there)
 carry_some w c sum (suc zero) r positive s h small there = carry_comes w c sum 1 (with_carry w c sum 0 None) r positive ((has_tells c 1 s).1 h) there
 carry_some w c sum (suc (suc z)) r positive s h small there = absurd (omega (arith, small))
 
-carried_good : (w : ℕ) (c : Stride) (sum : ℤ → Progression) (z : ℕ) (r : ℤ) → IsWordSize w → IsStride c → Covers c z → z < 2 → ((t : ℕ) → IsProgression (sum (pos t))) → Has (sum (pos z)) r
+carried_good : (w : ℕ) (c : Stride) (sum : ℤ → Progression) (z : ℕ) (r : ℤ) → IsWordSize w → IsStride c → Covers c z
+    → z < 2 → ((t : ℕ) → IsProgression (sum (pos t))) → Has (sum (pos z)) r
     → Good w (carried w c sum) (word w r)
 carried_good w c sum z r size s h small is there = settled_good w (word w r) (with_carry w c sum 1 (with_carry w c sum 0 None)) size
     (carry_placed w c sum 1 (with_carry w c sum 0 None) size.least (is 1) (carry_placed w c sum 0 None size.least (is 0) tt))
     (carry_some w c sum z r size.least s h small there)
 
-pub add_good : (a b c : Stride) (x y z : ℕ) → IsStride a → IsStride b → IsStride c → a.size ≡ b.size → z < 2 → Covers a x → Covers b y → Covers c z → Good a.size (add a b c) (word a.size (pos (x + y + z)))
+pub add_good : (a b c : Stride) (x y z : ℕ) → IsStride a → IsStride b → IsStride c → a.size ≡ b.size → z < 2
+    → Covers a x → Covers b y → Covers c z → Good a.size (add a b c) (word a.size (pos (x + y + z)))
 add_good a b c x y z s t u same small h k l =
     let w = a.size in
     let n = h.number in
@@ -162,7 +175,8 @@ add_good a b c x y z s t u same small h k l =
     (λ v. moved_is (pos v) (sums a.numbers b.numbers) (sums_is a.numbers b.numbers s.placed.progression t.placed.progression))
     (has_moved (sums a.numbers b.numbers) (pos z) (n +ℤ m) (sums_has a.numbers b.numbers n m h.has k.has)))
 
-pub sub_good : (a b c : Stride) (x y z : ℕ) → IsStride a → IsStride b → IsStride c → a.size ≡ b.size → z < 2 → Covers a x → Covers b y → Covers c z → Good a.size (sub a b c) (word a.size (pos (x + (2 ^ a.size - 1 - y) + z)))
+pub sub_good : (a b c : Stride) (x y z : ℕ) → IsStride a → IsStride b → IsStride c → a.size ≡ b.size → z < 2
+    → Covers a x → Covers b y → Covers c z → Good a.size (sub a b c) (word a.size (pos (x + (2 ^ a.size - 1 - y) + z)))
 sub_good a b c x y z s t u same small h k l =
     let w = a.size in
     let n = h.number in
@@ -185,20 +199,24 @@ sub_good a b c x y z s t u same small h k l =
 lesser_power : (n w : ℕ) → n ≤ w → Divides (full n) (full w)
 lesser_power n w most = record { times = pos (2 ^ (w - n)); is = ap pos (ap (λ (k : ℕ). 2 ^ k) (let e : w ≡ w - n + n = omega (arith, most) in e) ∙ pow-add 2 (w - n) n) }
 
-pub trunc_good : (n : ℕ) (a : Stride) (x : ℕ) → IsWordSize n → n ≤ a.size → IsStride a → Covers a x → Good n (trunc n a) (word n (pos x))
+pub trunc_good : (n : ℕ) (a : Stride) (x : ℕ) → IsWordSize n → n ≤ a.size → IsStride a → Covers a x
+    → Good n (trunc n a) (word n (pos x))
 trunc_good n a x size most s h =
     let k = h.number in
     good_as n (trunc n a) (word n k) (word n (pos x)) (same_word n k (pos x) (divides_through (full n) (full a.size) (k -ℤ pos x) (lesser_power n a.size most) (member_word a.size a.numbers x h)))
     (norm_good n a.numbers k size s.placed.progression h.has)
 
-pub z_ext_good : (n : ℕ) (a : Stride) (x : ℕ) → IsWordSize n → IsStride a → Covers a x → Good n (z_ext n a) (word n (pos x))
+pub z_ext_good : (n : ℕ) (a : Stride) (x : ℕ) → IsWordSize n → IsStride a → Covers a x
+    → Good n (z_ext n a) (word n (pos x))
 z_ext_good n a x size s h = unsigned_good n (λ p. p) a x (pos x) size s h (λ p piece. piece.progression) (λ p piece i. i)
 
-pub r_shift_good : (a : Stride) (x k : ℕ) → IsStride a → Covers a x → Good a.size (r_shift_by a k) (word a.size (pos (x / 2 ^ k)))
+pub r_shift_good : (a : Stride) (x k : ℕ) → IsStride a → Covers a x
+    → Good a.size (r_shift_by a k) (word a.size (pos (x / 2 ^ k)))
 r_shift_good a x k s h = unsigned_good a.size (quotients (full k)) a x (pos (x / 2 ^ k)) s.size s h
     (λ p piece. quotients_is (2 ^ k) p (pow_pos k) piece.progression) (λ p piece i. quotients_has (2 ^ k) p (pos x) (pow_pos k) i)
 
-pub select_good : (low high : ℕ) (a : Stride) (x : ℕ) → low ≤ high → high < a.size → IsStride a → Covers a x → Good (high - low + 1) (select low high a) (word (high - low + 1) (pos (x / 2 ^ low)))
+pub select_good : (low high : ℕ) (a : Stride) (x : ℕ) → low ≤ high → high < a.size → IsStride a → Covers a x
+    → Good (high - low + 1) (select low high a) (word (high - low + 1) (pos (x / 2 ^ low)))
 select_good low high a x order within s h =
     let g = r_shift_good a x low s h in
     let small : x / 2 ^ low < 2 ^ a.size = omega (arith, div-le_self x (2 ^ low), member_below a.size a.numbers x h) in
@@ -217,7 +235,8 @@ past w k x high =
     let d : Divides (full w) (pos (x * 2 ^ k) -ℤ pos 0) = record { times = pos (x * 2 ^ (k - w)); is = omega (arith, ints, ap (λ (n : ℕ). x * n) e) } in
     same_word w (pos (x * 2 ^ k)) (pos 0) d ∙ word_itself w 0 (pow_pos w)
 
-pub l_shift_good : (a : Stride) (x k : ℕ) → IsStride a → Covers a x → Good a.size (l_shift_by a k) (word a.size (pos (x * 2 ^ k)))
+pub l_shift_good : (a : Stride) (x k : ℕ) → IsStride a → Covers a x
+    → Good a.size (l_shift_by a k) (word a.size (pos (x * 2 ^ k)))
 l_shift_good a x k s h = by_test (nat_le a.size k)
     (λ out. rw out (good_as a.size (one_word a.size 0) 0 (word a.size (pos (x * 2 ^ k))) (sym (past a.size k x (leb-true a.size k out))) (one_good a.size 0 s.size (pow_pos a.size))))
     (λ within. rw within (let w = a.size in
@@ -238,7 +257,8 @@ mask_tells (suc w) x k e = by_test (x + 1 == 2 ^ suc w)
     (λ t. let f : Some (suc w) ≡ (let o : Option ℕ = Some k in o) = rw t at e in let g : suc w ≡ k = cc in rw (← g) (eqb-true (x + 1) (2 ^ suc w) t, omega arith))
     (λ t. let m = mask_tells w x k (rw t at e) in (m.0, omega (arith, m.1)))
 
-pub masked_good : (k : ℕ) (a : Stride) (x : ℕ) → k ≤ a.size → IsStride a → Covers a x → Good a.size (masked k a) (x % 2 ^ k)
+pub masked_good : (k : ℕ) (a : Stride) (x : ℕ) → k ≤ a.size → IsStride a → Covers a x
+    → Good a.size (masked k a) (x % 2 ^ k)
 masked_good k a x most s h =
     let w = a.size in
     let small = member_below w a.numbers x h in
@@ -262,7 +282,8 @@ mask_of_word a x k h e = by_test (is_one a)
     let m = mask_tells a.size (word_of a) k f in (omega (arith, one_word_alone a x one h, m.0), m.1))
     (λ more. let f : None ≡ (let o : Option ℕ = Some k in o) = rw more at e in cc)
 
-conjunction_at : (m n : Option ℕ) (a b : Stride) (x y : ℕ) → mask_of a ≡ m → mask_of b ≡ n → IsStride a → IsStride b → a.size ≡ b.size → Covers a x → Covers b y → Good a.size (conjunction_by m n a b) (bit_and x y)
+conjunction_at : (m n : Option ℕ) (a b : Stride) (x y : ℕ) → mask_of a ≡ m → mask_of b ≡ n → IsStride a → IsStride b
+    → a.size ≡ b.size → Covers a x → Covers b y → Good a.size (conjunction_by m n a b) (bit_and x y)
 conjunction_at (Some k) n a b x y e f s t same h l =
     let m = mask_of_word a x k h e in
     good_as a.size (masked k b) (y % 2 ^ k) (bit_and x y) (let c : bit_and x y ≡ y % 2 ^ k = rw m.0 (and_comm (2 ^ k - 1) y ∙ and_mask y k) in sym c)
@@ -280,7 +301,8 @@ conjunction_at None None a b x y e f s t same h l =
     good_as w (record { size = w; numbers = norm w (span (pos 0) top) }) (word w (pos (bit_and x y))) (bit_and x y) (word_itself w (bit_and x y) small)
     (norm_good w (span (pos 0) top) (pos (bit_and x y)) s.size (span_is (pos 0) top (omega (arith, ints, most))) (span_has (pos 0) top (pos (bit_and x y)) (omega (arith, ints)) most))
 
-pub conjunction_good : (a b : Stride) (x y : ℕ) → IsStride a → IsStride b → a.size ≡ b.size → Covers a x → Covers b y → Good a.size (conjunction a b) (word a.size (pos (bit_and x y)))
+pub conjunction_good : (a b : Stride) (x y : ℕ) → IsStride a → IsStride b → a.size ≡ b.size → Covers a x → Covers b y
+    → Good a.size (conjunction a b) (word a.size (pos (bit_and x y)))
 conjunction_good a b x y s t same h l =
     let small : bit_and x y < 2 ^ a.size = omega (arith, and_le_l x y, member_below a.size a.numbers x h) in
     good_as a.size (conjunction a b) (bit_and x y) (word a.size (pos (bit_and x y))) (sym (word_itself a.size (bit_and x y) small))
@@ -292,7 +314,8 @@ conjunction_good a b x y s t same h l =
 abbrev Passes : (Progression → Progression → Bool) → ℤ → ℤ → Type 0
 Passes test n m = (p q : Progression) → Has p n → Has q m → test p q ≡ true
 
-choice_has : (test : Progression → Progression → Bool) (n m : ℤ) (p q : Option Progression) → Passes test n m → HasSome p n → HasSome q m → at_choice test p q ≡ true
+choice_has : (test : Progression → Progression → Bool) (n m : ℤ) (p q : Option Progression) → Passes test n m
+    → HasSome p n → HasSome q m → at_choice test p q ≡ true
 choice_has test n m None q one h k = absurd h
 choice_has test n m (Some p) None one h k = absurd k
 choice_has test n m (Some p) (Some q) one h k = one p q h k
@@ -301,12 +324,14 @@ three : (P Q R : Bool) → ((P ≡ true) ⊎ ((Q ≡ true) ⊎ (R ≡ true))) �
 three P Q R some = ⊎_elim (λ (e : P ≡ true). or_left P (Q || R) e)
     (λ more. ⊎_elim (λ (e : Q ≡ true). or_right P (Q || R) (or_left Q R e)) (λ (e : R ≡ true). or_right P (Q || R) (or_right Q R e)) more) some
 
-second_has : (test : Progression → Progression → Bool) (n m : ℤ) (p : Option Progression) (b : Pieces) → Passes test n m → HasSome p n → SomeHas b m → some_second test p b ≡ true
+second_has : (test : Progression → Progression → Bool) (n m : ℤ) (p : Option Progression) (b : Pieces) → Passes test n m
+    → HasSome p n → SomeHas b m → some_second test p b ≡ true
 second_has test n m p b one h k = three (at_choice test p b.first) (at_choice test p b.second) (at_choice test p b.third)
     (⊎_elim (λ (j : HasSome b.first m). inl (choice_has test n m p b.first one h j))
     (λ more. ⊎_elim (λ (j : HasSome b.second m). inr (inl (choice_has test n m p b.second one h j))) (λ (j : HasSome b.third m). inr (inr (choice_has test n m p b.third one h j))) more) k)
 
-pub some_choice_has : (test : Progression → Progression → Bool) (n m : ℤ) (a b : Pieces) → Passes test n m → SomeHas a n → SomeHas b m → some_choice test a b ≡ true
+pub some_choice_has : (test : Progression → Progression → Bool) (n m : ℤ) (a b : Pieces) → Passes test n m → SomeHas a n
+    → SomeHas b m → some_choice test a b ≡ true
 some_choice_has test n m a b one h k = three (some_second test a.first b) (some_second test a.second b) (some_second test a.third b)
     (⊎_elim (λ (j : HasSome a.first n). inl (second_has test n m a.first b one j k))
     (λ more. ⊎_elim (λ (j : HasSome a.second n). inr (inl (second_has test n m a.second b one j k))) (λ (j : HasSome a.third n). inr (inr (second_has test n m a.third b one j k))) more) h)
@@ -314,7 +339,8 @@ some_choice_has test n m a b one h k = three (some_second test a.first b) (some_
 one_bit : IsWordSize 1
 one_bit = record { least = omega arith; most = omega arith }
 
-pub truth_good : (holds fails v : Bool) → (v ≡ true → holds ≡ true) → (v ≡ false → fails ≡ true) → Good 1 (truth holds fails) (word 1 (bit v))
+pub truth_good : (holds fails v : Bool) → (v ≡ true → holds ≡ true) → (v ≡ false → fails ≡ true)
+    → Good 1 (truth holds fails) (word 1 (bit v))
 truth_good true true true p q = every_good 1 1 one_bit (omega arith)
 truth_good true true false p q = every_good 1 0 one_bit (omega arith)
 truth_good true false true p q = one_good 1 1 one_bit (omega arith)
@@ -323,12 +349,14 @@ truth_good false fails true p q = absurd (false≢true (p refl))
 truth_good false true false p q = one_good 1 0 one_bit (omega arith)
 truth_good false false false p q = absurd (false≢true (q refl))
 
-pub less_good : (P Q : Pieces) (n m : ℤ) (v : Bool) → SomeHas P n → SomeHas Q m → (v ≡ true → n <ℤ m) → (v ≡ false → m ≤ℤ n) → Good 1 (less P Q) (word 1 (bit v))
+pub less_good : (P Q : Pieces) (n m : ℤ) (v : Bool) → SomeHas P n → SomeHas Q m → (v ≡ true → n <ℤ m)
+    → (v ≡ false → m ≤ℤ n) → Good 1 (less P Q) (word 1 (bit v))
 less_good P Q n m v h k holds fails = truth_good (some_choice below P Q) (some_choice at_most Q P) v
     (λ e. some_choice_has below n m P Q (λ p q i j. sym (omega (arith, ints, holds e, i.least, j.most))) h k)
     (λ e. some_choice_has at_most m n Q P (λ q p j i. sym (omega (arith, ints, fails e, i.most, j.least))) k h)
 
-pub less_or_equal_good : (P Q : Pieces) (n m : ℤ) (v : Bool) → SomeHas P n → SomeHas Q m → (v ≡ true → n ≤ℤ m) → (v ≡ false → m <ℤ n) → Good 1 (less_or_equal P Q) (word 1 (bit v))
+pub less_or_equal_good : (P Q : Pieces) (n m : ℤ) (v : Bool) → SomeHas P n → SomeHas Q m → (v ≡ true → n ≤ℤ m)
+    → (v ≡ false → m <ℤ n) → Good 1 (less_or_equal P Q) (word 1 (bit v))
 less_or_equal_good P Q n m v h k holds fails = truth_good (some_choice at_most P Q) (some_choice below Q P) v
     (λ e. some_choice_has at_most n m P Q (λ p q i j. sym (omega (arith, ints, holds e, i.least, j.most))) h k)
     (λ e. some_choice_has below m n Q P (λ q p j i. sym (omega (arith, ints, fails e, i.most, j.least))) k h)
@@ -363,7 +391,8 @@ differ_where a b x y h k other = by_test (is_one a && (is_one b && (word_of a ==
 
 -- ---- choice
 
-pub choice_good : (c a b : Stride) (z x y : ℕ) → IsStride c → IsStride a → IsStride b → a.size ≡ b.size → z < 2 → Covers c z → Covers a x → Covers b y
+pub choice_good : (c a b : Stride) (z x y : ℕ) → IsStride c → IsStride a → IsStride b → a.size ≡ b.size → z < 2
+    → Covers c z → Covers a x → Covers b y
     → Good a.size (choice c a b) (if z == 1 then x else y)
 choice_good c a b (suc zero) x y u s t same small l h k = rw ((has_tells c 1 u).1 l) (by_test (has c 0)
     (λ e. rw e (record {

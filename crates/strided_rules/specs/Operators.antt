@@ -145,7 +145,8 @@ less a b = truth (some_choice below a b) (some_choice at_most b a)
 abbrev pub less_or_equal : Pieces → Pieces → Stride
 less_or_equal a b = truth (some_choice at_most a b) (some_choice below b a)
 
--- the ranges overlap, and the low ends agree modulo the common divisor of the steps, which is 0 where they are to be equal
+-- the ranges overlap, and the low ends agree modulo the common divisor of the steps, which is 0 where they are to be
+-- equal
 abbrev pub agree : ℤ → ℤ → Bool
 agree g apart = if int_le g (pos 0) then is_same apart (pos 0) else is_same (int_rem_euclid apart g) (pos 0)
 

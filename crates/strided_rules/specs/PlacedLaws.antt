@@ -174,11 +174,13 @@ pub member_below : (w : ℕ) (p : Progression) (t : ℕ) → IsMember w p t → 
 member_below w p t m = let P : ℕ → Type 0 = λ u. u < 2 ^ w in subst P m.word (word_below w m.number)
 
 -- numbers that differ by a multiple and are nearer than it are equal
-pub by_distance : (w : ℕ) (n m : ℤ) → Divides (full w) (n -ℤ m) → (n -ℤ m) <ℤ full w → neg_ℤ (full w) <ℤ (n -ℤ m) → n ≡ m
+pub by_distance : (w : ℕ) (n m : ℤ) → Divides (full w) (n -ℤ m) → (n -ℤ m) <ℤ full w → neg_ℤ (full w) <ℤ (n -ℤ m)
+    → n ≡ m
 by_distance w n m d below above = let zero_ = only_zero (2 ^ w) (n -ℤ m) d below above in omega (arith, ints, zero_)
 
 -- a number that differs from a word by a multiple makes it a member
-pub member_other : (w : ℕ) (p : Progression) (t : ℕ) (n : ℤ) → Has p n → Divides (full w) (n -ℤ pos t) → t < 2 ^ w → IsMember w p t
+pub member_other : (w : ℕ) (p : Progression) (t : ℕ) (n : ℤ) → Has p n → Divides (full w) (n -ℤ pos t) → t < 2 ^ w
+    → IsMember w p t
 member_other w p t n h d below = record { number = n; has = h; word = same_word w n (pos t) d ∙ word_itself w t below }
 
 -- One word.

@@ -29,7 +29,9 @@ span_is lo hi order = is_from_to lo hi (pos 1) order (omega (arith, ints)) (reco
 -- Rests.
 
 -- between two numbers of one quotient all have that quotient
-one_quotient : (d : ℕ) (p : Progression) (n : ℤ) → 0 < d → int_le (int_div_euclid p.hi (pos d)) (int_div_euclid p.lo (pos d)) ≡ true → p.lo ≤ℤ n → n ≤ℤ p.hi → n -ℤ int_rem_euclid n (pos d) ≡ p.lo -ℤ int_rem_euclid p.lo (pos d)
+one_quotient : (d : ℕ) (p : Progression) (n : ℤ) → 0 < d
+    → int_le (int_div_euclid p.hi (pos d)) (int_div_euclid p.lo (pos d)) ≡ true → p.lo ≤ℤ n → n ≤ℤ p.hi
+    → n -ℤ int_rem_euclid n (pos d) ≡ p.lo -ℤ int_rem_euclid p.lo (pos d)
 one_quotient d p n positive one least most =
     let same : int_div_euclid n (pos d) ≡ int_div_euclid p.lo (pos d) = omega (arith, ints, one, quotient_rises p.lo n d positive least, quotient_rises n p.hi d positive most) in
     omega (arith, ints, quotient_and_rest n d positive, quotient_and_rest p.lo d positive, ap (λ (t : ℤ). t *ℤ pos d) same)
@@ -54,7 +56,8 @@ rests_is d p positive r = by_test (int_le (int_div_euclid p.hi (pos d)) (int_div
 
 -- Words above words.
 
-above_aligned : (d : ℕ) (p q : Progression) (n m : ℤ) → Divides p.step (n -ℤ p.lo) → Divides q.step (m -ℤ q.lo) → Divides (gcd (p.step *ℤ pos d) q.step) (((n *ℤ pos d) +ℤ m) -ℤ ((p.lo *ℤ pos d) +ℤ q.lo))
+above_aligned : (d : ℕ) (p q : Progression) (n m : ℤ) → Divides p.step (n -ℤ p.lo) → Divides q.step (m -ℤ q.lo)
+    → Divides (gcd (p.step *ℤ pos d) q.step) (((n *ℤ pos d) +ℤ m) -ℤ ((p.lo *ℤ pos d) +ℤ q.lo))
 above_aligned d p q n m i j =
     let g = gcd (p.step *ℤ pos d) q.step in
     let x = divides_through g (p.step *ℤ pos d) ((n -ℤ p.lo) *ℤ pos d) (gcd_first (p.step *ℤ pos d) q.step) (divides_scaled (pos d) p.step (n -ℤ p.lo) i) in
@@ -109,7 +112,8 @@ quotient_up : (x y d : ℤ) → pos 1 ≤ℤ d → x ≤ℤ y → int_div_euclid
 quotient_up x y (pos d) positive less = quotient_rises x y d (omega (arith, ints, positive)) less
 quotient_up x y (negsuc d) positive less = absurd (omega (arith, ints, positive))
 
-pub ratios_has : (p q : Progression) (n m : ℤ) → pos 0 ≤ℤ p.lo → pos 1 ≤ℤ m → Has p n → Has q m → Has (ratios p q) (int_div_euclid n m)
+pub ratios_has : (p q : Progression) (n m : ℤ) → pos 0 ≤ℤ p.lo → pos 1 ≤ℤ m → Has p n → Has q m
+    → Has (ratios p q) (int_div_euclid n m)
 unfolding ratios
 ratios_has p q n m low positive h k =
     let top = int_max q.hi (pos 1) in
@@ -155,7 +159,8 @@ between_quotients x n y (negsuc d) some less more =
     let b = up_toward_zero n y (suc d) (omega arith) more in
     (omega (arith, ints, clamps, a, b, turned x d, turned n d, turned y d), omega (arith, ints, clamps, a, b, turned x d, turned n d, turned y d))
 
-pub toward_zero_has : (d : ℤ) (p : Progression) (n : ℤ) → unsigned_abs d ≢ 0 → Has p n → Has (toward_zero d p) (int_div n d)
+pub toward_zero_has : (d : ℤ) (p : Progression) (n : ℤ) → unsigned_abs d ≢ 0 → Has p n
+    → Has (toward_zero d p) (int_div n d)
 unfolding toward_zero
 toward_zero_has d p n some h =
     let b = between_quotients p.lo n p.hi d some h.least h.most in
@@ -190,14 +195,16 @@ left_range lo (negsuc a) hi d some less more =
       by_test (int_lt (pos 0) hi) (λ e. rw e (omega (arith, ints, clamps, e, some))) (λ e. rw e (omega (arith, ints))),
     )
 
-pub signed_rests_has : (d : ℤ) (p : Progression) (n : ℤ) → unsigned_abs d ≢ 0 → Has p n → Has (signed_rests (pos (unsigned_abs d)) p) (n -ℤ (d *ℤ int_div n d))
+pub signed_rests_has : (d : ℤ) (p : Progression) (n : ℤ) → unsigned_abs d ≢ 0 → Has p n
+    → Has (signed_rests (pos (unsigned_abs d)) p) (n -ℤ (d *ℤ int_div n d))
 unfolding signed_rests left_over
 signed_rests_has d p n some h =
     let r = left_range p.lo n p.hi d some h.least h.most in
     let e = left_is_rest n d in
     rw e (span_has (least_rest (pos (unsigned_abs d)) p.lo) (greatest_rest (pos (unsigned_abs d)) p.hi) (int_rem n d) r.0 r.1)
 
-pub signed_rests_is : (d : ℤ) (p : Progression) → unsigned_abs d ≢ 0 → IsProgression (signed_rests (pos (unsigned_abs d)) p)
+pub signed_rests_is : (d : ℤ) (p : Progression) → unsigned_abs d ≢ 0
+    → IsProgression (signed_rests (pos (unsigned_abs d)) p)
 unfolding signed_rests
 signed_rests_is d p some =
     let e = unsigned_abs d in

@@ -9,17 +9,20 @@ use Rattle.memory_rules.specs.Memories.{Mem, stored, weak_at, weak_all}
 use Rattle.memory_model.specs.KeptMemories.{MemoryParts, memory_in, rows_of, IsMemory}
 use Rattle.memory_model.specs.SeenOrders.{AreAlike}
 
-weak_runs : (cells : List (ℕ × ℕ)) (m : Mem abstract_sets) (size : ℕ) (v : AbstractValue) → (weak_all abstract_sets m cells size v).runs ≡ m.runs
+weak_runs : (cells : List (ℕ × ℕ)) (m : Mem abstract_sets) (size : ℕ) (v : AbstractValue)
+    → (weak_all abstract_sets m cells size v).runs ≡ m.runs
 weak_runs [] m size v = refl
 weak_runs (cell ∷ cells) m size v = weak_runs cells (weak_at abstract_sets m cell size v) size v
 
-stored_runs : (cells : List (ℕ × ℕ)) (m : Mem abstract_sets) (size : ℕ) (v : AbstractValue) → (stored abstract_sets m cells size v).runs ≡ m.runs
+stored_runs : (cells : List (ℕ × ℕ)) (m : Mem abstract_sets) (size : ℕ) (v : AbstractValue)
+    → (stored abstract_sets m cells size v).runs ≡ m.runs
 stored_runs [] m size v = refl
 stored_runs (cell ∷ []) m size v = refl
 stored_runs (cell ∷ other ∷ cells) m size v = weak_runs (cell ∷ other ∷ cells) m size v
 
 -- a store changes nothing of which functions run
-pub changed_first : (a b new : MemoryParts) (at v : AbstractValue) (size : ℕ) → AreAlike a b → new.checked ≡ a.checked → IsMemory new
+pub changed_first : (a b new : MemoryParts) (at v : AbstractValue) (size : ℕ) → AreAlike a b → new.checked ≡ a.checked
+    → IsMemory new
     → memory_in new ≡ stored_at (rows_of a.checked) (memory_in a) at size v → AreAlike new b
 changed_first a b new at v size alike same kept is = record {
   checked = same ∙ alike.checked;

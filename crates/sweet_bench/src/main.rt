@@ -1,8 +1,8 @@
 //! The work whose time and memory the scripts of bench/ take. It promises nothing.
 //!
 //! `sweet_bench SUBJECT WORD ..` does the work of a subject, which is the name of its script, and writes what came of
-//! it. `sweet_bench all FILE` does it for each line of the file, which has the words of one run. Where words, numbers or
-//! files do not serve, nothing is written, and the status is 1; of a kind that there is not, a line may say so.
+//! it. `sweet_bench all FILE` does it for each line of the file, which has the words of one run. Where words, numbers
+//! or files do not serve, nothing is written, and the status is 1; of a kind that there is not, a line may say so.
 #![tactic(auto)]
 
 // What several subjects need: numbers, files, and programs of ALF.

@@ -25,7 +25,8 @@ use Rattle.sweet_cli.proofs.OwnReports.{own_checked}
 
 module _ (one : HasOneCheck) (totals : ClosedExplorationsHaveTotals) (meant_only : FilesMeanTheirReport) (spell : ReportTextsSpell) where
   -- `check` of the text accepts it, whatever was read before
-  accepted_again : (given : AnalyseWords) (report : List ℕ) (files later : Files) (before after : Log) (text : List ℕ) → given.certified ≡ true
+  accepted_again : (given : AnalyseWords) (report : List ℕ) (files later : Files) (before after : Log) (text : List ℕ)
+      → given.certified ≡ true
       → (analysing given).steps.Gives (Some files) before text after → HoldSame given files later → later report ≡ Some text → length text ≤ most_report_bytes
       → (again : Log) → (last : Log) × (checking (check_words given report)).steps.Gives (Some later) again accepted last
   unfolding analysing checking report_judged report_in

@@ -1,4 +1,5 @@
--- What work gives over told files it gives over others that hold the same under the names that it reads, whatever was read before.
+-- What work gives over told files it gives over others that hold the same under the names that it reads, whatever was
+-- read before.
 --   Carries w         so it is of the work
 --   reading, judging, ending, going_on   of work as it is put together
 --   program_carried   of the read of a program, its graph and its scopes
@@ -28,7 +29,8 @@ module _ (files later : Files) where
   abbrev pub Carries : {A : Type 0} → Work A → Type 0
   Carries {A = A} w = (p q : Log) (a : A) → w.steps.Gives (Some files) p a q → (again : Log) → (last : Log) × w.steps.Gives (Some later) again a last
 
-  reading : (role : Role) (file : List ℕ) (limit : ℕ) (line : List ℕ) → later file ≡ files file → Carries (reads role file limit line)
+  reading : (role : Role) (file : List ℕ) (limit : ℕ) (line : List ℕ) → later file ≡ files file
+      → Carries (reads role file limit line)
   reading role file limit line same p q bytes (read, short, there) again = (log_with again file, (refl, short, same ∙ there))
 
   judging : {A : Type 0} (Means : Result A Outcome → Type 0) → Carries (judged Means)
@@ -64,11 +66,13 @@ module _ (files later : Files) where
   of_c file root same =
       going_on (checked_unit_in file root) (λ unit. done (numbered (lowered unit) root)) (of_unit file root same) (λ unit. ending (numbered (lowered unit) root))
 
-  of_either : (given : ProgramFile) (root : List ℕ) → later (file_name given) ≡ files (file_name given) → Carries (checked_in given root)
+  of_either : (given : ProgramFile) (root : List ℕ) → later (file_name given) ≡ files (file_name given)
+      → Carries (checked_in given root)
   of_either (Alf file) root same = of_alf file root same
   of_either (C file) root same = of_c file root same
 
-  expansion : (given : ProgramFile) (root : List ℕ) → later (file_name given) ≡ files (file_name given) → Carries (expanded_in given root)
+  expansion : (given : ProgramFile) (root : List ℕ) → later (file_name given) ≡ files (file_name given)
+      → Carries (expanded_in given root)
   unfolding expanded_in
   expansion given root same =
       going_on (checked_in given root) (λ program. judged (GraphMeans program) >>= (λ graph. done (record { program = program; graph = graph })))
@@ -77,7 +81,8 @@ module _ (files later : Files) where
       (λ graph. ending (record { program = program; graph = graph })))
 
   -- of the read of a program, its graph and its scopes
-  pub program_carried : (given : ProgramFile) (root : List ℕ) → later (file_name given) ≡ files (file_name given) → Carries (scoped_in given root)
+  pub program_carried : (given : ProgramFile) (root : List ℕ) → later (file_name given) ≡ files (file_name given)
+      → Carries (scoped_in given root)
   unfolding scoped_in
   program_carried given root same =
       going_on (expanded_in given root) (λ expanded. judged (ScopesMean expanded.graph) >>= (λ scoped. done (record { expanded = expanded; scoped = scoped })))
@@ -87,20 +92,23 @@ module _ (files later : Files) where
 
   -- ---- the tables
 
-  of_rows : (program : NumberedProgram) (file : Option (List ℕ)) → IfSome file (λ name. later name ≡ files name) → Carries (inputs_in program file)
+  of_rows : (program : NumberedProgram) (file : Option (List ℕ)) → IfSome file (λ name. later name ≡ files name)
+      → Carries (inputs_in program file)
   unfolding inputs_told
   of_rows program None same = ending []
   of_rows program (Some file) same =
       going_on (reads Inputs file most_bytes_of_a_file too_long) (λ bytes. judged (InputsMean bytes program)) (reading Inputs file most_bytes_of_a_file too_long same) (λ bytes. judging (InputsMean bytes program))
 
-  of_costs : (program : NumberedProgram) (file : Option (List ℕ)) → IfSome file (λ name. later name ≡ files name) → Carries (costs_in program file)
+  of_costs : (program : NumberedProgram) (file : Option (List ℕ)) → IfSome file (λ name. later name ≡ files name)
+      → Carries (costs_in program file)
   unfolding costs_told
   of_costs program None same = ending one_each
   of_costs program (Some file) same =
       going_on (reads Costs file most_bytes_of_a_file too_long) (λ bytes. judged (CostsMean bytes program)) (reading Costs file most_bytes_of_a_file too_long same) (λ bytes. judging (CostsMean bytes program))
 
   -- of the reads of inputs and costs
-  pub tables_carried : (program : NumberedProgram) (inputs costs : Option (List ℕ)) → IfSome inputs (λ name. later name ≡ files name)
+  pub tables_carried : (program : NumberedProgram) (inputs costs : Option (List ℕ))
+      → IfSome inputs (λ name. later name ≡ files name)
       → IfSome costs (λ name. later name ≡ files name) → Carries (tables_in program inputs costs)
   unfolding tables_in
   tables_carried program inputs costs same_inputs same_costs =

@@ -24,7 +24,8 @@ use Rattle.sweet_cli.specs.Check.{report_judged, checking, IsSoundOf, IsSoundTol
 use Rattle.sweet_cli.proofs.Promises.{told_graph, told_tables, inputs_keep}
 
 -- the told file spells the report that was read
-pub told_report : (file : List ℕ) (files : Files) (before : Log) (report : Reported) (after : Log) → (report_in file).steps.Gives (Some files) before report after → IsToldReport file files report
+pub told_report : (file : List ℕ) (files : Files) (before : Log) (report : Reported) (after : Log)
+    → (report_in file).steps.Gives (Some files) before report after → IsToldReport file files report
 unfolding report_in
 told_report file files before report after (bytes, log, read, (spelled, same)) = (bytes, read.2, spelled.means)
 

@@ -35,7 +35,8 @@ module _ (program : NumberedProgram) (graph : GraphParts) (rows : List InputRow)
   counted_for costs same (told.Left n) h = h
 
   -- and so it is of an answer
-  pub all_counted : (costs : List ℕ) → costs ≡ map (node_cost program table) graph.nodes → (result : Result Counted AllocError)
+  pub all_counted : (costs : List ℕ) → costs ≡ map (node_cost program table) graph.nodes
+      → (result : Result Counted AllocError)
       → IfOk result (λ counted. Tells program graph.nodes costs (start program rows words) turns counted)
       → IfOk result (λ counted. CountedAs (record { program = program; graph = graph }) rows words table turns counted)
   all_counted costs same (Ok counted) h = counted_for costs same counted h

@@ -38,16 +38,21 @@ use Rattle.sweet_cli.proofs.SoundReports.{costs_same}
 -- ---- in the words of the program
 
 module _ (program : NumberedProgram) (checked : CheckedParts) (is : IsProgramOf program checked) where
-  ends_same : (rows : List InputRow) (run : List Node) (outcome : RunOutcome) → Ends (seen checked) (low_start (seen checked) rows) run outcome → Ends program (low_start program rows) run outcome
+  ends_same : (rows : List InputRow) (run : List Node) (outcome : RunOutcome)
+      → Ends (seen checked) (low_start (seen checked) rows) run outcome
+      → Ends program (low_start program rows) run outcome
   ends_same rows run outcome h = subst (λ (p : NumberedProgram). Ends p (low_start p rows) run outcome) is h
 
-  past_same : (nodes : List Node) (rows : List InputRow) (turns n : ℕ) → IsPast (seen checked) nodes (low_start (seen checked) rows) turns n → IsPast program nodes (low_start program rows) turns n
+  past_same : (nodes : List Node) (rows : List InputRow) (turns n : ℕ)
+      → IsPast (seen checked) nodes (low_start (seen checked) rows) turns n
+      → IsPast program nodes (low_start program rows) turns n
   past_same nodes rows turns n h = subst (λ (p : NumberedProgram). IsPast p nodes (low_start p rows) turns n) is h
 
 -- ---- what is told
 
 -- a path bound changes nothing of it
-exact_with : (o : Outlined) (given : Reported) (b : ℕ × BoundWord) (trace : List ℕ) (fault : Option RunFault) → IsExact o given trace fault → IsExact o (with_path_bound given b) trace fault
+exact_with : (o : Outlined) (given : Reported) (b : ℕ × BoundWord) (trace : List ℕ) (fault : Option RunFault)
+    → IsExact o given trace fault → IsExact o (with_path_bound given b) trace fault
 exact_with o given b trace fault is =
     record { totals = is.totals; deads = is.deads; loops = is.loops; counts = is.counts; pairs = is.pairs; alarms = is.alarms; bound = is.bound }
 

@@ -47,7 +47,8 @@ use Rattle.sweet_cli.proofs.SoundReports.{SoundPrint}
 
 module _ {S T C R B : Type 0} (machine : S → Machine T C) (states : Order T) (recorders : Order R) (z : Recording R B) (policy : Policy) (turns : ℕ) where
   -- the steps of a policy's run are those among its events
-  pub steps_counted : (events : List Event) (old new : Pooled S T R B) → IsPolicyRun machine states recorders z policy turns old events new
+  pub steps_counted : (events : List Event) (old new : Pooled S T R B)
+      → IsPolicyRun machine states recorders z policy turns old events new
       → new.steps ≡ old.steps + steps_among events
   steps_counted [] old new (is, end) = let same : new.steps ≡ old.steps = ap (λ (p : Pooled S T R B). p.steps) is in omega (arith, same)
   steps_counted (Step i ∷ events) old new (more, choice, mid, (spot, found, is), rest) =
@@ -77,7 +78,8 @@ turns_counted program graph rows costs policy turns pivots report h =
 
 module _ (work : Work (List ℕ)) (files : Files) where
   -- a value is the only meaning
-  value_only : (before after : Log) (a : List ℕ) → work.steps.Gives (Some files) before a after → IsOnly (EndsOver work files) (Ok a)
+  value_only : (before after : Log) (a : List ℕ) → work.steps.Gives (Some files) before a after
+      → IsOnly (EndsOver work files) (Ok a)
   value_only before after a gives = record { means = (before, after, gives); only = only }
     where
       only : (y : Result (List ℕ) Outcome) → EndsOver work files y → AreAlikeResults (Ok a) y
@@ -85,7 +87,8 @@ module _ (work : Work (List ℕ)) (files : Files) where
       only (Err o) (p, q, of, other) = work.one.apart files before p a o after q of gives other
 
   -- and so is an outcome that tells no failed read
-  outcome_only : (before after : Log) (x : Outcome) → unread_of x.cause ≡ None → work.steps.Stops (Some files) before x after
+  outcome_only : (before after : Log) (x : Outcome) → unread_of x.cause ≡ None
+      → work.steps.Stops (Some files) before x after
       → IsOnly (EndsOver work files) (Err x)
   outcome_only before after x of stops = record { means = (before, after, of, stops); only = only }
     where
@@ -94,12 +97,14 @@ module _ (work : Work (List ℕ)) (files : Files) where
       only (Err o) (p, q, none, other) = (work.one.stops files before p x o after q of none stops other).0
 
   -- no failed read is told where none has failed
-  none_failed : (name : Option (List ℕ)) (before after : ShelfState) → (Rose before.faults after.faults → ⊥) → Tells name before after → name ≡ None
+  none_failed : (name : Option (List ℕ)) (before after : ShelfState) → (Rose before.faults after.faults → ⊥)
+      → Tells name before after → name ≡ None
   none_failed None before after whole told = refl
   none_failed (Some name) before after whole told = absurd (whole told.0)
 
   -- what was worked for over these files, of which no read failed, is judged
-  pub summed_only : (before after : ShelfState) (result : Result (Vec ℕ Global) Stop) → before.files ≡ Some files → (Rose before.faults after.faults → ⊥)
+  pub summed_only : (before after : ShelfState) (result : Result (Vec ℕ Global) Stop) → before.files ≡ Some files
+      → (Rose before.faults after.faults → ⊥)
       → Works work (λ (t : Vec ℕ Global). t.items) before result after → Judges (EndsOver work files) (λ (t : Vec ℕ Global). t.items) result
   summed_only before after (Ok text) told whole works =
       value_only (log_of before) (log_of after) text.items
@@ -125,7 +130,8 @@ judged_works Means view shelf (Err (stops.Told why text)) only = record {
 judged_works Means view shelf (Err stops.Memory) only = record { ends = tt; same = refl; later = omega arith }
 
 -- and of which something holds whatever the files are
-pub kept_anyway : {X : Type 0} (told : Option Files) (P : X → Type 0) (result : Result X Stop) → IfOk result P → IfOk result (λ x. IfSome told (λ files. P x))
+pub kept_anyway : {X : Type 0} (told : Option Files) (P : X → Type 0) (result : Result X Stop) → IfOk result P
+    → IfOk result (λ x. IfSome told (λ files. P x))
 kept_anyway None P (Ok x) kept = tt
 kept_anyway (Some files) P (Ok x) kept = kept
 kept_anyway told P (Err stop) kept = tt

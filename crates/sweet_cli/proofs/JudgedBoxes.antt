@@ -33,15 +33,18 @@ module _ (program : ScopedProgram) (rows : List InputRow) (costs : CostTable) (p
 
   module _ (one : (first second : Result Searched ℕ) → Finds first → Finds second → first ≡ second) where
     -- boxes are the only meaning
-    pub boxes_only : (found : Searched) → Finds (Ok found) → IsOnly (WorstMeans program rows costs policy turns pivots splits) (Ok found)
+    pub boxes_only : (found : Searched) → Finds (Ok found)
+        → IsOnly (WorstMeans program rows costs policy turns pivots splits) (Ok found)
     boxes_only found h = record { means = h; only = only }
       where
-        only : (y : Result Searched Outcome) → WorstMeans program rows costs policy turns pivots splits y → AreAlikeResults (Ok found) y
+        only : (y : Result Searched Outcome) → WorstMeans program rows costs policy turns pivots splits y
+            → AreAlikeResults (Ok found) y
         only (Ok other) k = found_is found other (one (Ok found) (Ok other) h k)
         only (Err o) k = found_not found k.scope (one (Ok found) (Err k.scope) h k.left)
 
     -- and so is that places are left
-    pub left_only : (scope : ℕ) (text : List ℕ) → Finds (Err scope) → text ≡ left_line program.expanded.graph program.scoped.scopes scope
+    pub left_only : (scope : ℕ) (text : List ℕ) → Finds (Err scope)
+        → text ≡ left_line program.expanded.graph program.scoped.scopes scope
         → IsOnly (WorstMeans program rows costs policy turns pivots splits) (Err (record { cause = Unbounded; text = text }))
     left_only scope text h is = record { means = record { scope = scope; left = h; line = here }; only = only }
       where
@@ -51,6 +54,7 @@ module _ (program : ScopedProgram) (rows : List InputRow) (costs : CostTable) (p
         here : o ≡ left_at scope
         here = λ i. record { cause = Unbounded; text = is i }
 
-        only : (y : Result Searched Outcome) → WorstMeans program rows costs policy turns pivots splits y → AreAlikeResults (Err o) y
+        only : (y : Result Searched Outcome) → WorstMeans program rows costs policy turns pivots splits y
+            → AreAlikeResults (Err o) y
         only (Ok other) k = found_not other scope (one (Ok other) (Err scope) k h)
         only (Err x) k = alike o x (here ∙ ap left_at (scope_is scope k.scope (one (Err scope) (Err k.scope) h k.left)) ∙ sym k.line)

@@ -35,15 +35,18 @@ module _ (one : HasOneAnalysis) (program : ScopedProgram) (rows : List InputRow)
   left_at scope = record { cause = Unbounded; text = left_line program.expanded.graph program.scoped.scopes scope }
 
   -- lines are the only meaning
-  pub lines_only : (lines : CacheLines) → Finds (Told lines) → IsOnly (CacheMeans program rows costs shape policy turns) (Ok lines)
+  pub lines_only : (lines : CacheLines) → Finds (Told lines)
+      → IsOnly (CacheMeans program rows costs shape policy turns) (Ok lines)
   lines_only lines h = record { means = h; only = only }
     where
-      only : (y : Result CacheLines Outcome) → CacheMeans program rows costs shape policy turns y → AreAlikeResults (Ok lines) y
+      only : (y : Result CacheLines Outcome) → CacheMeans program rows costs shape policy turns y
+          → AreAlikeResults (Ok lines) y
       only (Ok other) k = told_is lines other (same (Told lines) (Told other) h k)
       only (Err o) k = told_not lines k.scope (same (Told lines) (LeftIn k.scope) h k.left)
 
   -- and so is that places are left
-  pub left_only : (scope : ℕ) (text : List ℕ) → Finds (LeftIn scope) → text ≡ left_line program.expanded.graph program.scoped.scopes scope
+  pub left_only : (scope : ℕ) (text : List ℕ) → Finds (LeftIn scope)
+      → text ≡ left_line program.expanded.graph program.scoped.scopes scope
       → IsOnly (CacheMeans program rows costs shape policy turns) (Err (record { cause = Unbounded; text = text }))
   left_only scope text h is = record { means = record { scope = scope; left = h; line = here }; only = only }
     where
@@ -53,6 +56,7 @@ module _ (one : HasOneAnalysis) (program : ScopedProgram) (rows : List InputRow)
       here : o ≡ left_at scope
       here = λ i. record { cause = Unbounded; text = is i }
 
-      only : (y : Result CacheLines Outcome) → CacheMeans program rows costs shape policy turns y → AreAlikeResults (Err o) y
+      only : (y : Result CacheLines Outcome) → CacheMeans program rows costs shape policy turns y
+          → AreAlikeResults (Err o) y
       only (Ok other) k = told_not other scope (same (Told other) (LeftIn scope) k h)
       only (Err x) k = alike o x (here ∙ ap left_at (left_is scope k.scope (same (LeftIn scope) (LeftIn k.scope) h k.left)) ∙ sym k.line)

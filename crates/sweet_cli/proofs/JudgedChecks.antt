@@ -44,7 +44,8 @@ module _ (one : HasOneCheck) (program : ScopedProgram) (rows : List InputRow) (c
   refused_by objection = record { cause = No; text = objection_line objection }
 
   -- that nothing does is the only meaning
-  pub accepted_only : (text : List ℕ) → Answered None → text ≡ accepted → IsOnly (CheckMeans program rows costs report) (Ok text)
+  pub accepted_only : (text : List ℕ) → Answered None → text ≡ accepted
+      → IsOnly (CheckMeans program rows costs report) (Ok text)
   accepted_only text h is = record { means = (h, is); only = only }
     where
       only : (y : Result (List ℕ) Outcome) → CheckMeans program rows costs report y → AreAlikeResults (Ok text) y
@@ -52,7 +53,8 @@ module _ (one : HasOneCheck) (program : ScopedProgram) (rows : List InputRow) (c
       only (Err o) k = none-some k.objection (same None (Some k.objection) h k.first)
 
   -- and so is what does
-  pub refused_only : (objection : Objection) (text : List ℕ) → Answered (Some objection) → text ≡ objection_line objection
+  pub refused_only : (objection : Objection) (text : List ℕ) → Answered (Some objection)
+      → text ≡ objection_line objection
       → IsOnly (CheckMeans program rows costs report) (Err (record { cause = No; text = text }))
   refused_only objection text h is = record { means = record { objection = objection; first = h; line = here }; only = only }
     where
@@ -69,7 +71,8 @@ module _ (one : HasOneCheck) (program : ScopedProgram) (rows : List InputRow) (c
 -- ---- ranks have no part
 
 -- what is answered by the checked parts of a program is answered for the program
-pub check_of : (checked : CheckedParts) (graph : GraphParts) (rows : List InputRow) → IsKept (seen checked) → IsGraph (seen checked) graph → KeepInputs (seen checked) rows
+pub check_of : (checked : CheckedParts) (graph : GraphParts) (rows : List InputRow) → IsKept (seen checked)
+    → IsGraph (seen checked) graph → KeepInputs (seen checked) rows
     → (costs : CostTable) (outline : Outlined) (report : Reported) (answer : Option Objection) → IsOutline (shape_of outline) → IsOutlined graph outline → HasCosts (seen checked) graph costs outline
     → IsChecked stepped_by parts_order (record { checked = checked; graph = graph; rows = rows }) outline report answer
     → IsCheckOf (seen checked) graph rows costs report answer

@@ -46,10 +46,12 @@ module _ (program : NumberedProgram) (nodes : List Node) (rows : List InputRow) 
   abbrev TellsBy : Shape → List ℕ → Type 0
   TellsBy s costs = Asks (IsOutside rows values) (AreWithin rows values) (TellsRun program nodes (start program rows (words_of rows values)) s costs report) told
 
-  tells_along : (o other : Outlined) → AreAlike o other → TellsValues program nodes rows o report values told → TellsValues program nodes rows other report values told
+  tells_along : (o other : Outlined) → AreAlike o other → TellsValues program nodes rows o report values told
+      → TellsValues program nodes rows other report values told
   tells_along o other alike is = subst (TellsBy (shape_of other)) alike.costs (subst (λ (s : Shape). TellsBy s (costs_of o)) alike.shape is)
 
-  replayed_along : (o other : Outlined) → AreAlike o other → IsReplayed program nodes rows o report values told → IsReplayed program nodes rows other report values told
+  replayed_along : (o other : Outlined) → AreAlike o other → IsReplayed program nodes rows o report values told
+      → IsReplayed program nodes rows other report values told
   replayed_along o other alike (objects e is same) =
       objects e (record { shapeless = λ shape. is.shapeless (shaped_along other o report (alike_back o other alike) shape); is = is.is }) same
   replayed_along o other alike (passes shape tells) = passes (shaped_along o other report alike shape) (tells_along o other alike tells)
@@ -87,10 +89,12 @@ module _ (along : HasOneAlike) (one : HasOneReplay) (program : ScopedProgram) (r
   objected_by objection = record { cause = No; text = objection_line objection }
 
   -- the run's cost is the only meaning
-  pub held_only : (cost : ℕ) (text : List ℕ) → Tells (Ok cost) → text ≡ holds_line cost → IsOnly (ReplayMeans program rows costs report values) (Ok text)
+  pub held_only : (cost : ℕ) (text : List ℕ) → Tells (Ok cost) → text ≡ holds_line cost
+      → IsOnly (ReplayMeans program rows costs report values) (Ok text)
   held_only cost text h line = record { means = record { cost = cost; holds = h; line = line }; only = only }
     where
-      only : (y : Result (List ℕ) Outcome) → ReplayMeans program rows costs report values y → AreAlikeResults (Ok text) y
+      only : (y : Result (List ℕ) Outcome) → ReplayMeans program rows costs report values y
+          → AreAlikeResults (Ok text) y
       only (Ok other) k = line ∙ ap holds_line (costs_one cost k.cost h k.holds) ∙ sym k.line
       only (Err o) k = not_both cost k.objection h k.first
 

@@ -29,7 +29,8 @@ use Rattle.command_files.specs.Seen.{IsOutlined}
 use Rattle.sweet_cli.specs.Analyse.{ReportMeans}
 
 -- other costs leave the names
-pub named_again : (old new : Outlined) → IsPricedAs old new → map (λ row. row.name.items) new.nodes ≡ map (λ row. row.name.items) old.nodes
+pub named_again : (old new : Outlined) → IsPricedAs old new
+    → map (λ row. row.name.items) new.nodes ≡ map (λ row. row.name.items) old.nodes
 named_again old new kept =
     let bytes : Vec ℕ Global → List ℕ = λ name. name.items in
     sym (map-map bytes (λ (row : NodeRow). row.name) new.nodes) ∙ ap (map bytes) kept.names ∙ map-map bytes (λ (row : NodeRow). row.name) old.nodes
@@ -61,15 +62,18 @@ module _ (one : HasOneBoundedAnalysis) (printed : HasOnePrintedReport) (certify 
   left_at scope = record { cause = Unbounded; text = left_line program.expanded.graph program.scoped.scopes scope }
 
   -- a report is the only meaning
-  pub report_only : (report : Reported) → Prints report → IsOnly (ReportMeans certify program rows costs policy turns pivots) (Ok report)
+  pub report_only : (report : Reported) → Prints report
+      → IsOnly (ReportMeans certify program rows costs policy turns pivots) (Ok report)
   report_only report h = record { means = h; only = only }
     where
-      only : (y : Result Reported Outcome) → ReportMeans certify program rows costs policy turns pivots y → AreAlikeResults (Ok report) y
+      only : (y : Result Reported Outcome) → ReportMeans certify program rows costs policy turns pivots y
+          → AreAlikeResults (Ok report) y
       only (Ok other) k = printed certify program.expanded.program program.expanded.graph rows costs policy turns pivots report other h k
       only (Err o) k = told_not h.bare k.scope (same (Told h.bare) (LeftIn k.scope) (bare_found report h) k.left)
 
   -- and so is that places are left
-  pub left_only : (scope : ℕ) (text : List ℕ) → Finds (LeftIn scope) → text ≡ left_line program.expanded.graph program.scoped.scopes scope
+  pub left_only : (scope : ℕ) (text : List ℕ) → Finds (LeftIn scope)
+      → text ≡ left_line program.expanded.graph program.scoped.scopes scope
       → IsOnly (ReportMeans certify program rows costs policy turns pivots) (Err (record { cause = Unbounded; text = text }))
   left_only scope text h is = record { means = record { scope = scope; left = h; line = here }; only = only }
     where
@@ -79,12 +83,14 @@ module _ (one : HasOneBoundedAnalysis) (printed : HasOnePrintedReport) (certify 
       here : o ≡ left_at scope
       here = λ i. record { cause = Unbounded; text = is i }
 
-      only : (y : Result Reported Outcome) → ReportMeans certify program rows costs policy turns pivots y → AreAlikeResults (Err o) y
+      only : (y : Result Reported Outcome) → ReportMeans certify program rows costs policy turns pivots y
+          → AreAlikeResults (Err o) y
       only (Ok other) k = told_not k.bare scope (same (Told k.bare) (LeftIn scope) (bare_found other k) h)
       only (Err x) k = alike o x (here ∙ ap left_at (left_is scope k.scope (same (LeftIn scope) (LeftIn k.scope) h k.left)) ∙ sym k.line)
 
 -- some text spells what is printed
-printed_writable : (certify : Bool) (report : Reported) (cert : Certificate) → AreWritable report cert → IsWritable (printed_as certify report cert)
+printed_writable : (certify : Bool) (report : Reported) (cert : Certificate) → AreWritable report cert
+    → IsWritable (printed_as certify report cert)
 printed_writable true report cert are = certificate_writable report cert are.report_is are.cert_is
 printed_writable false report cert are = are.report_is
 
@@ -93,7 +99,8 @@ printed_writable false report cert are = are.report_is
 module _ (checked : CheckedParts) (graph : GraphParts) (rows : List InputRow) (keeps : IsKept (seen checked)) (graph_is : IsGraph (seen checked) graph) (inputs : KeepInputs (seen checked) rows)
     (costs : CostTable) (outline : Outlined) (policy : Policy) (turns pivots : ℕ) where
   -- what was found of the parts of the program, but for the path bound
-  analysis_of : (answer : Answer) → IsOutline (shape_of outline) → IsOutlined graph outline → HasCosts (seen checked) graph costs outline
+  analysis_of : (answer : Answer) → IsOutline (shape_of outline) → IsOutlined graph outline
+      → HasCosts (seen checked) graph costs outline
       → IsFound (record { checked = checked; graph = graph; rows = rows }) outline policy turns answer
       → IsAnalysis (seen checked) graph rows costs policy turns answer
   analysis_of answer outline_kept outlined priced found = record {
@@ -111,7 +118,8 @@ module _ (checked : CheckedParts) (graph : GraphParts) (rows : List InputRow) (k
   }
 
   -- and with it, and with the certificate where one is wanted
-  pub printed_of : (certify : Bool) (report : Reported) (cert : Certificate) → IsOutline (shape_of outline) → IsOutlined graph outline → HasCosts (seen checked) graph costs outline
+  pub printed_of : (certify : Bool) (report : Reported) (cert : Certificate) → IsOutline (shape_of outline)
+      → IsOutlined graph outline → HasCosts (seen checked) graph costs outline
       → IsCertifiedWith (record { checked = checked; graph = graph; rows = rows }) outline policy turns pivots report cert → AreWritable report cert
       → IsPrintedReport certify (seen checked) graph rows costs policy turns pivots (printed_as certify report cert)
   unfolding analysis_of
@@ -126,7 +134,8 @@ module _ (checked : CheckedParts) (graph : GraphParts) (rows : List InputRow) (k
   }
 
   -- or that places are left
-  pub left_of : (scope : ℕ) → IsOutline (shape_of outline) → IsOutlined graph outline → HasCosts (seen checked) graph costs outline
+  pub left_of : (scope : ℕ) → IsOutline (shape_of outline) → IsOutlined graph outline
+      → HasCosts (seen checked) graph costs outline
       → IsLeft (record { checked = checked; graph = graph; rows = rows }) outline policy turns scope
       → IsBoundedAnalysis (seen checked) graph rows costs policy turns pivots (LeftIn scope)
   left_of scope outline_kept outlined priced found = analysis_of (LeftIn scope) outline_kept outlined priced found

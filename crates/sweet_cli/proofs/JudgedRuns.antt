@@ -23,7 +23,8 @@ use Rattle.sweet_cli.proofs.Numbers.{Differ, runs_one, past_not, past_one}
 -- ---- one meaning
 
 -- the line of the node that comes after so many
-pub left_of : (program : ScopedProgram) (begin : Moment) (turns n : ℕ) (text : List ℕ) → IsPast program.expanded.program program.expanded.graph.nodes begin turns n
+pub left_of : (program : ScopedProgram) (begin : Moment) (turns n : ℕ) (text : List ℕ)
+    → IsPast program.expanded.program program.expanded.graph.nodes begin turns n
     → text ≡ unbounded_line program n → IsLeft program begin turns (record { cause = Unbounded; text = text })
 left_of program begin turns n text past is = record { node = n; past = past; line = λ i. record { cause = Unbounded; text = is i } }
 
@@ -33,16 +34,20 @@ module _ (one : HasOneEnd) (law : EndsAtItsLength) (program : ScopedProgram) (ap
   left_at n = record { cause = Unbounded; text = unbounded_line program n }
 
   -- a run has one such line
-  lefts_one : (begin : Moment) (x y : Outcome) → IsLeft program begin turns x → IsLeft program begin turns y → AreAlike x y
+  lefts_one : (begin : Moment) (x y : Outcome) → IsLeft program begin turns x → IsLeft program begin turns y
+      → AreAlike x y
   lefts_one begin x y h k =
       let same = past_one program.expanded.program program.expanded.graph.nodes apart begin turns h.node k.node h.past k.past in
       alike x y (h.line ∙ ap left_at same ∙ sym k.line)
 
-  left_not : (begin : Moment) (trace : List ℕ) (outcome : RunOutcome) (o : Outcome) → Runs program.expanded.program program.expanded.graph.nodes begin trace outcome → length trace ≤ turns → IsLeft program begin turns o → ⊥
+  left_not : (begin : Moment) (trace : List ℕ) (outcome : RunOutcome) (o : Outcome)
+      → Runs program.expanded.program program.expanded.graph.nodes begin trace outcome → length trace ≤ turns
+      → IsLeft program begin turns o → ⊥
   left_not begin trace outcome o runs within left = past_not law program.expanded.program program.expanded.graph.nodes begin turns trace outcome runs within left.node left.past
 
   module _ (rows : List InputRow) where
-    texts_one : (a b : List ℕ) → IsRunText program.expanded rows costs turns a → IsRunText program.expanded rows costs turns b → a ≡ b
+    texts_one : (a b : List ℕ) → IsRunText program.expanded rows costs turns a
+        → IsRunText program.expanded rows costs turns b → a ≡ b
     texts_one a b h k =
         let same = runs_one one program.expanded.program program.expanded.graph.nodes apart (low_start program.expanded.program rows) h.trace k.trace h.outcome k.outcome h.runs k.runs in
         let cost = ap (cost_of (node_cost program.expanded.program costs)) same.run_is in
@@ -52,14 +57,16 @@ module _ (one : HasOneEnd) (law : EndsAtItsLength) (program : ScopedProgram) (ap
         ∙ ap (run_text program.expanded (last_of k.trace) k.outcome (length k.trace)) cost ∙ sym k.shown
 
     -- the text of a run is the only meaning
-    pub text_only : (text : List ℕ) → IsRunText program.expanded rows costs turns text → IsOnly (RunMeans program rows costs turns) (Ok text)
+    pub text_only : (text : List ℕ) → IsRunText program.expanded rows costs turns text
+        → IsOnly (RunMeans program rows costs turns) (Ok text)
     text_only text h = record { means = h; only = only }
       where
         only : (y : Result (List ℕ) Outcome) → RunMeans program rows costs turns y → AreAlikeResults (Ok text) y
         only (Ok other) k = texts_one text other h k
         only (Err o) k = left_not (low_start program.expanded.program rows) h.trace h.outcome o h.runs h.within k
 
-    pub past_only : (o : Outcome) → IsLeft program (low_start program.expanded.program rows) turns o → IsOnly (RunMeans program rows costs turns) (Err o)
+    pub past_only : (o : Outcome) → IsLeft program (low_start program.expanded.program rows) turns o
+        → IsOnly (RunMeans program rows costs turns) (Err o)
     past_only o h = record { means = h; only = only }
       where
         only : (y : Result (List ℕ) Outcome) → RunMeans program rows costs turns y → AreAlikeResults (Err o) y

@@ -30,10 +30,12 @@ module _ (tasks : List TimedTask) (times_one : TimesAreOne) (late_one : LateIsOn
       only (Err o) k = never_both tasks times k.i h k.first
 
   -- the first that is late is one task
-  one_task : (i : ℕ) (task : TimedTask) → IsTask tasks i task → IsFirstLate tasks i → (k : IsFirstLate tasks i) → task ≡ k.task
+  one_task : (i : ℕ) (task : TimedTask) → IsTask tasks i task → IsFirstLate tasks i → (k : IsFirstLate tasks i)
+      → task ≡ k.task
   one_task i task is h k = same_Some task k.task (sym is ∙ k.is)
 
-  pub late_only : (i : ℕ) (task : TimedTask) → IsTask tasks i task → IsFirstLate tasks i → IsOnly (ResponsesMean tasks) (Err (late_outcome task))
+  pub late_only : (i : ℕ) (task : TimedTask) → IsTask tasks i task → IsFirstLate tasks i
+      → IsOnly (ResponsesMean tasks) (Err (late_outcome task))
   late_only i task is h = record {
     means = record { i = i; first = h; told = ap late_outcome (same_Some task h.task (sym is ∙ h.is)) };
     only = only;
@@ -49,7 +51,8 @@ module _ (tasks : List TimedTask) (times_one : TimesAreOne) (late_one : LateIsOn
 -- ---- the promise
 
 -- a text that the work gives tells the response times of the told tasks, and each job finishes in them
-pub tells_responses : TasksAreTaskSets → AllFinishInTime → (file : List ℕ) (told : Option Files) (before : Log) (text : List ℕ) (after : Log)
+pub tells_responses : TasksAreTaskSets → AllFinishInTime
+    → (file : List ℕ) (told : Option Files) (before : Log) (text : List ℕ) (after : Log)
     → (answering file).steps.Gives told before text after → IfSome told (λ files. TellsResponses file files text)
 unfolding answering tasks_told
 tells_responses sets finish file None before text after g = tt

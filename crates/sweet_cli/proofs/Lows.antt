@@ -32,7 +32,9 @@ export_low n h =
     (λ c. let last : (n == 64) ≡ true = rw (a, b, c) at h in let is : n ≡ 64 = search rules in omega arith)))
 
 -- the low ends lie in their ranges
-pub lows_within : (program : NumberedProgram) (rows : List InputRow) → ((row : InputRow) → Contains rows row → KeepsInput program row) → AreWithin rows (map (λ (row : InputRow). row.low) rows)
+pub lows_within : (program : NumberedProgram) (rows : List InputRow)
+    → ((row : InputRow) → Contains rows row → KeepsInput program row)
+    → AreWithin rows (map (λ (row : InputRow). row.low) rows)
 lows_within program [] keep = tt
 lows_within program (row ∷ rows) keep = (
   record { least = ≤ℤ_refl row.low; most = (keep row (first_member row rows)).ordered },

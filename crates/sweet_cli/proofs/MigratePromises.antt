@@ -11,7 +11,8 @@ use Rattle.command_files.specs.ReportFiles.{report_in}
 use Rattle.sweet_cli.specs.Migrate.{migrating, IsMigratedReport}
 
 -- a text that the work gives spells the report of the told file in the second form
-pub tells_migrated : SpelledWhereWritable → ReportTextsSpell → (file : List ℕ) (told : Option Files) (before : Log) (text : List ℕ) (after : Log)
+pub tells_migrated : SpelledWhereWritable → ReportTextsSpell
+    → (file : List ℕ) (told : Option Files) (before : Log) (text : List ℕ) (after : Log)
     → (migrating file).steps.Gives told before text after → IfSome told (λ files. IsMigratedReport file files text)
 unfolding migrating report_in
 tells_migrated exactly own file None before text after g = tt

@@ -74,7 +74,9 @@ told_tables program inputs costs files before tables after (rows, a, first, (spe
 )
 
 -- the rows keep the rules of rows
-pub inputs_keep : RowsKeepTheRules → (file : Option (List ℕ)) (files : Files) (program : NumberedProgram) (rows : List InputRow) → AreInputs file files program rows → KeepInputs program rows
+pub inputs_keep : RowsKeepTheRules
+    → (file : Option (List ℕ)) (files : Files) (program : NumberedProgram) (rows : List InputRow)
+    → AreInputs file files program rows → KeepInputs program rows
 inputs_keep law None files program rows is = subst (KeepInputs program) (sym is) (record { each = All-nil (KeepsInput program); apart = λ i j d less low. absurd (omega arith) })
 inputs_keep law (Some file) files program rows (bytes, told, means) = law bytes program rows means
 
@@ -156,7 +158,8 @@ lowers_text given (Some files) unit name whole text of named is spelled shown pa
 }
 
 -- a text that was printed spells the same program
-pub prints_same : CanonicalTextsSpell → (file : List ℕ) (told : Option Files) (before : Log) (text : List ℕ) (after : Log)
+pub prints_same : CanonicalTextsSpell
+    → (file : List ℕ) (told : Option Files) (before : Log) (text : List ℕ) (after : Log)
     → (printing file).steps.Gives told before text after → IfSome told (λ files. IsSameProgram file files text)
 unfolding printing program_in
 prints_same back file None before text after g = tt
@@ -164,7 +167,8 @@ prints_same back file (Some files) before text after (whole, mid, (bytes, log, r
     record { bytes = bytes; whole = whole; told = read.2; spelled = spelled.means; again = rw shown (back whole (bytes, spelled.means)) }
 
 -- and so does a text of C, but for places
-pub prints_same_unit : PrintedUnitsAreReadBack → (file : List ℕ) (told : Option Files) (before : Log) (text : List ℕ) (after : Log)
+pub prints_same_unit : PrintedUnitsAreReadBack
+    → (file : List ℕ) (told : Option Files) (before : Log) (text : List ℕ) (after : Log)
     → (printing_c file).steps.Gives told before text after → IfSome told (λ files. IsSameUnit file files text)
 unfolding printing_c unit_in
 prints_same_unit back file None before text after g = tt
@@ -181,14 +185,16 @@ not_done No e = cc
 not_done (Unread name) e = cc
 
 -- after `Done` the promise is kept
-pub promised : (task : Task) (told : Option Files) (ending : Ending) (from to : SinkState) → ending_status ending ≡ statuses.Done
+pub promised : (task : Task) (told : Option Files) (ending : Ending) (from to : SinkState)
+    → ending_status ending ≡ statuses.Done
     → IfSome told (λ files. KeepsPromise task files ending) → Wrote (ending_text ending) from to → IfSome told (λ files. Promised task files from to)
 promised task None ending from to e h w = tt
 promised task (Some files) (Finished text) from to e h w = (text, h, w)
 promised task (Some files) (Stopped outcome) from to e h w = absurd (not_done outcome.cause e)
 
 -- where the count of faults did not rise, no failed read is told
-pub no_failed_read : (name : Option (List ℕ)) (before after : ShelfState) → Tells name before after → (Rose before.faults after.faults → ⊥) → name ≡ None
+pub no_failed_read : (name : Option (List ℕ)) (before after : ShelfState) → Tells name before after
+    → (Rose before.faults after.faults → ⊥) → name ≡ None
 no_failed_read None before after t n = refl
 no_failed_read (Some name) before after t n = absurd (n t.0)
 
@@ -200,7 +206,8 @@ settle w (Some files) p ending q status from to due none is wrote =
     (ending_text ending, record { ending = ending; before = p; after = q; due = due; no_failed_read = none; status_is = is; text_is = refl }, wrote)
 
 -- a status of a failed read comes only with one that is told
-unread_told : (c : Cause) (before after : ShelfState) → status_of c ≡ statuses.ReadFailed → Tells (unread_of c) before after → (name : List ℕ) × Rose before.faults after.faults × (after.failed ≡ Some name)
+unread_told : (c : Cause) (before after : ShelfState) → status_of c ≡ statuses.ReadFailed
+    → Tells (unread_of c) before after → (name : List ℕ) × Rose before.faults after.faults × (after.failed ≡ Some name)
 unread_told Usage before after e t = absurd (cc)
 unread_told Source before after e t = absurd (cc)
 unread_told Example before after e t = absurd (cc)
@@ -208,6 +215,8 @@ unread_told Unbounded before after e t = absurd (cc)
 unread_told No before after e t = absurd (cc)
 unread_told (Unread name) before after e t = (name, t.0, t.1)
 
-pub read_failed : (ending : Ending) (before after : ShelfState) → ending_status ending ≡ statuses.ReadFailed → Tells (ending_unread ending) before after → (name : List ℕ) × Rose before.faults after.faults × (after.failed ≡ Some name)
+pub read_failed : (ending : Ending) (before after : ShelfState) → ending_status ending ≡ statuses.ReadFailed
+    → Tells (ending_unread ending) before after
+    → (name : List ℕ) × Rose before.faults after.faults × (after.failed ≡ Some name)
 read_failed (Finished text) before after e t = absurd (cc)
 read_failed (Stopped outcome) before after e t = unread_told outcome.cause before after e t

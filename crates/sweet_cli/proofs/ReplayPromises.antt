@@ -43,11 +43,13 @@ module _ (program : NumberedProgram) (graph : GraphParts) (rows : List InputRow)
   told_same same = cc
 
   -- where a cost is told, what is asked first passes, and the rest tells it
-  asked : {Objects : Objection → Type 0} {Passes : Type 0} {Rest : Told → Type 0} → Asks Objects Passes Rest (Ok cost) → Passes × Rest (Ok cost)
+  asked : {Objects : Objection → Type 0} {Passes : Type 0} {Rest : Told → Type 0} → Asks Objects Passes Rest (Ok cost)
+      → Passes × Rest (Ok cost)
   asked (objects e objection same) = absurd (not_told same)
   asked (passes holds rest) = (holds, rest)
 
-  of_end : (inside : AreWithin rows values) (trace : List ℕ) (outcome : RunOutcome) → Runs program graph.nodes (start program rows (words_of rows values)) trace outcome
+  of_end : (inside : AreWithin rows values) (trace : List ℕ) (outcome : RunOutcome)
+      → Runs program graph.nodes (start program rows (words_of rows values)) trace outcome
       → TellEnd (shape_of is.outline) (costs_of is.outline) report trace (fault_of outcome) (Ok cost) → HoldsOfRun program graph rows costs report values cost
   of_end inside trace outcome runs end =
       let alarm = asked end in
@@ -81,7 +83,8 @@ module _ (program : NumberedProgram) (graph : GraphParts) (rows : List InputRow)
 -- ---- what was read
 
 -- the told file has the numbers that were read
-told_numbers : (n : ℕ) (file : Option (List ℕ)) (files : Files) (before : Log) (values : List ℤ) (after : Log) → (values_in n file).steps.Gives (Some files) before values after → AreValues file files n values
+told_numbers : (n : ℕ) (file : Option (List ℕ)) (files : Files) (before : Log) (values : List ℤ) (after : Log)
+    → (values_in n file).steps.Gives (Some files) before values after → AreValues file files n values
 unfolding values_told
 told_numbers n None files before values after (only, same) = only.means
 told_numbers n (Some file) files before values after (bytes, log, read, (only, same)) = (bytes, read.2, only.means)

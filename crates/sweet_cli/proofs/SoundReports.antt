@@ -23,7 +23,8 @@ use Rattle.program_analysis.specs.BoundedSound.{IsSound, FoundReportsAreRight}
 use Rattle.sweet_cli.specs.Analyse.{IsSoundOf, HasCertificate}
 
 -- what nodes cost, by the parts of the program
-pub costs_same : (program : NumberedProgram) (checked : CheckedParts) → IsProgramOf program checked → (costs : CostTable) → node_cost (seen checked) costs ≡ node_cost program costs
+pub costs_same : (program : NumberedProgram) (checked : CheckedParts) → IsProgramOf program checked
+    → (costs : CostTable) → node_cost (seen checked) costs ≡ node_cost program costs
 costs_same program checked is costs = ap (λ (p : NumberedProgram). node_cost p costs) is
 
 -- a report that is found is sound, and its path bound is what its word says
@@ -47,7 +48,8 @@ sound_of law program graph rows costs policy turns pivots report h =
 -- ---- with a certificate
 
 -- the report is sound, and has a certificate where one is wanted
-pub record SoundPrint (certify : Bool) (program : NumberedProgram) (graph : GraphParts) (rows : List InputRow) (costs : CostTable) (report : Reported) : Type 0 where
+pub record SoundPrint (certify : Bool) (program : NumberedProgram) (graph : GraphParts) (rows : List InputRow)
+    (costs : CostTable) (report : Reported) : Type 0 where
   pub sound : IsSoundOf program graph rows costs report
   pub certificate : HasCertificate certify sound.outline report
 
@@ -65,7 +67,9 @@ module _ (program : NumberedProgram) (graph : GraphParts) (rows : List InputRow)
     least = s.least;
   }
 
-  shown_sound : (certify : Bool) → bare.cert ≡ None → AreHeld (system_of s.outline bare.facts).program cert.scale cert.multipliers → SoundPrint certify program graph rows costs (printed_as certify bare cert)
+  shown_sound : (certify : Bool) → bare.cert ≡ None
+      → AreHeld (system_of s.outline bare.facts).program cert.scale cert.multipliers
+      → SoundPrint certify program graph rows costs (printed_as certify bare cert)
   unfolding certified_sound
   shown_sound true none held = record { sound = certified_sound; certificate = record { cert = cert; there = refl; held = held } }
   shown_sound false none held = record { sound = s; certificate = none }

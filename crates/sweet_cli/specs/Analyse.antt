@@ -47,14 +47,16 @@ policy_of Exits = policies.Exits
 policy_of Joins = policies.Joins
 
 -- places are left after so many turns, and the outcome tells the scope of the first one
-pub record IsLeftAt (program : ScopedProgram) (rows : List InputRow) (costs : CostTable) (policy : Policy) (turns : ℕ) (outcome : Outcome) : Type 0 where
+pub record IsLeftAt (program : ScopedProgram) (rows : List InputRow) (costs : CostTable) (policy : Policy) (turns : ℕ)
+    (outcome : Outcome) : Type 0 where
   pub scope : ℕ
   pub left : IsAnalysis program.expanded.program program.expanded.graph rows costs policy turns (LeftIn scope)
   pub line : outcome ≡ record { cause = Unbounded; text = left_line program.expanded.graph program.scoped.scopes scope }
 
--- the report of the exploration, with the path bound of its facts after so many pivots at most, and where a certificate is wanted, with the
--- events of the policy and the multipliers of the bound; or that places are left
-abbrev pub ReportMeans : Bool → ScopedProgram → List InputRow → CostTable → Policy → ℕ → ℕ → Result Reported Outcome → Type 0
+-- the report of the exploration, with the path bound of its facts after so many pivots at most, and where a certificate
+-- is wanted, with the events of the policy and the multipliers of the bound; or that places are left
+abbrev pub ReportMeans : Bool → ScopedProgram → List InputRow → CostTable → Policy → ℕ → ℕ → Result Reported Outcome
+    → Type 0
 ReportMeans certify program rows costs policy turns pivots (Ok report) =
     IsPrintedReport certify program.expanded.program program.expanded.graph rows costs policy turns pivots report
 ReportMeans certify program rows costs policy turns pivots (Err outcome) = IsLeftAt program rows costs policy turns outcome
@@ -66,9 +68,10 @@ analysing given = do
   report ← judged (ReportMeans given.certified program tables.rows tables.costs (policy_of given.merging) given.turns given.pivots)
   done (report_text report)
 
--- the report is sound for the program, with the scopes of its graph; its path bound is at most its count bound, and where its word is
--- `least`, it is the greatest worth of a point that meets the report's rows, rounded down
-pub record IsSoundOf (program : NumberedProgram) (graph : GraphParts) (rows : List InputRow) (costs : CostTable) (report : Reported) : Type 0 where
+-- the report is sound for the program, with the scopes of its graph; its path bound is at most its count bound, and
+-- where its word is `least`, it is the greatest worth of a point that meets the report's rows, rounded down
+pub record IsSoundOf (program : NumberedProgram) (graph : GraphParts) (rows : List InputRow) (costs : CostTable)
+    (report : Reported) : Type 0 where
   pub outline : Outlined
   pub outline_is : IsOutlineOf (plan_of graph) (shape_of outline)
   pub costs_are : HasCosts program graph costs outline
@@ -87,9 +90,10 @@ abbrev pub HasCertificate : Bool → Outlined → Reported → Type 0
 HasCertificate true o report = IsCertified o report
 HasCertificate false o report = report.cert ≡ None
 
--- the text spells a report that is sound for the program that the file gives, with inputs and costs as the told files say:
--- every run from inputs inside the ranges ends, meets each fact, has an alarm for its fault, and costs no more than each bound;
--- where the file is one of C, each run's outcome is that of the unit from the cells that hold the run's own inputs (`IsToldProgram`)
+-- the text spells a report that is sound for the program that the file gives, with inputs and costs as the told files
+-- say: every run from inputs inside the ranges ends, meets each fact, has an alarm for its fault, and costs no more
+-- than each bound; where the file is one of C, each run's outcome is that of the unit from the cells that hold the
+-- run's own inputs (`IsToldProgram`)
 pub record IsSoundReport (given : AnalyseWords) (files : Files) (text : List ℕ) : Type 0 where
   pub program : NumberedProgram
   pub graph : GraphParts

@@ -36,14 +36,16 @@ abbrev pub cache_shape : CacheWords → Shape
 cache_shape given = record { sets = given.sets; ways = given.ways; line = given.line; penalty = given.penalty }
 
 -- places are left after so many turns, and the outcome tells the scope of the first one
-pub record IsCacheLeftAt (program : ScopedProgram) (rows : List InputRow) (costs : CostTable) (shape : Shape) (policy : Policy)
+pub record IsCacheLeftAt (program : ScopedProgram) (rows : List InputRow) (costs : CostTable) (shape : Shape)
+    (policy : Policy)
     (turns : ℕ) (outcome : Outcome) : Type 0 where
   pub scope : ℕ
   pub left : IsAnalysis program.expanded.program program.expanded.graph rows shape costs policy turns (LeftIn scope)
   pub line : outcome ≡ record { cause = Unbounded; text = left_line program.expanded.graph program.scoped.scopes scope }
 
 -- what the exploration tells of the cache, or that places are left
-abbrev pub CacheMeans : ScopedProgram → List InputRow → CostTable → Shape → Policy → ℕ → Result CacheLines Outcome → Type 0
+abbrev pub CacheMeans : ScopedProgram → List InputRow → CostTable → Shape → Policy → ℕ → Result CacheLines Outcome
+    → Type 0
 CacheMeans program rows costs shape policy turns (Ok lines) =
     IsAnalysis program.expanded.program program.expanded.graph rows shape costs policy turns (Told lines)
 CacheMeans program rows costs shape policy turns (Err outcome) = IsCacheLeftAt program rows costs shape policy turns outcome
@@ -57,8 +59,8 @@ caching given = do
 
 -- the text tells hits and a bound for the program that the file gives, by the files that the words name: those that the
 -- policy's exploration finds with the rule of the recorder of misses. Each run from inputs inside the ranges ends, and
--- whatever the cache has at first, the run costs with the penalties of its misses no more than the bound, and each access
--- at a node that is told hits
+-- whatever the cache has at first, the run costs with the penalties of its misses no more than the bound, and each
+-- access at a node that is told hits
 pub record TellsCache (given : CacheWords) (files : Files) (text : List ℕ) : Type 0 where
   pub program : NumberedProgram
   pub graph : GraphParts

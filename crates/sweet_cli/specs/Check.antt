@@ -77,9 +77,9 @@ pub record IsSoundTold (file : List ℕ) (files : Files) (program : NumberedProg
   pub sound : IsSoundOf program graph rows costs report
 
 -- the report that the told file spells is sound for the program that the told file gives, with inputs and costs as the
--- told files say: every run from inputs inside the ranges ends, meets each fact, has an alarm for its fault, and costs no
--- more than the count bound, and than the path bound, where the report has one; where the file is one of C, each run's
--- outcome is that of the unit from the cells that hold the run's own inputs (`IsToldProgram`)
+-- told files say: every run from inputs inside the ranges ends, meets each fact, has an alarm for its fault, and costs
+-- no more than the count bound, and than the path bound, where the report has one; where the file is one of C, each
+-- run's outcome is that of the unit from the cells that hold the run's own inputs (`IsToldProgram`)
 pub record IsAccepted (given : CheckWords) (files : Files) (text : List ℕ) : Type 0 where
   pub program : NumberedProgram
   pub graph : GraphParts

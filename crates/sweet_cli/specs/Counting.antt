@@ -16,7 +16,8 @@ use Rattle.program_machines.specs.NodeCosts.{node_cost}
 use Rattle.program_files.specs.Expanding.{Expanded}
 
 -- the tally is that of the run from the start, which has no more nodes than the turns
-pub record CountsRun (expanded : Expanded) (costs : CostTable) (start : Moment) (turns : ℕ) (tally : Tally) : Type 0 where
+pub record CountsRun (expanded : Expanded) (costs : CostTable) (start : Moment) (turns : ℕ)
+    (tally : Tally) : Type 0 where
   pub trace : List ℕ
   pub runs : Runs expanded.program expanded.graph.nodes start trace (outcome_of tally.end)
   pub within : length trace ≤ turns

@@ -26,8 +26,10 @@ use Rattle.command_files.specs.Scopes.{ScopedProgram, IsScoped}
 use Rattle.sweet_cli.specs.Run.{IsLeft, low_start}
 use Rattle.sweet_cli.specs.Analyse.{ReportMeans}
 
--- the run from the one input ends within the turns, and the report tells its own numbers and its fault; both bounds are its cost
-pub record TellsOneRun (program : NumberedProgram) (graph : GraphParts) (rows : List InputRow) (costs : CostTable) (turns : ℕ) (report : Reported) : Type 0 where
+-- the run from the one input ends within the turns, and the report tells its own numbers and its fault; both bounds are
+-- its cost
+pub record TellsOneRun (program : NumberedProgram) (graph : GraphParts) (rows : List InputRow) (costs : CostTable)
+    (turns : ℕ) (report : Reported) : Type 0 where
   pub trace : List ℕ
   pub outcome : RunOutcome
   pub runs : Runs program graph.nodes (low_start program rows) trace outcome
@@ -40,7 +42,8 @@ pub record TellsOneRun (program : NumberedProgram) (graph : GraphParts) (rows : 
   pub count : report.count_bound ≡ cost_of (node_cost program costs) runs.run
   pub path : HasPathBound (λ b. b.0 ≡ cost_of (node_cost program costs) runs.run) report
 
--- so it is of a report; places are left where the run has more nodes than the turns, and the line tells the scope of the one that comes after so many
+-- so it is of a report; places are left where the run has more nodes than the turns, and the line tells the scope of
+-- the one that comes after so many
 abbrev pub MeansOneRun : ScopedProgram → List InputRow → CostTable → ℕ → Result Reported Outcome → Type 0
 MeansOneRun program rows costs turns (Ok report) = TellsOneRun program.expanded.program program.expanded.graph rows costs turns report
 MeansOneRun program rows costs turns (Err outcome) = IsLeft program (low_start program.expanded.program rows) turns outcome

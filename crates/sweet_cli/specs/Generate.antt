@@ -37,8 +37,8 @@ EndsOver w files (Ok a) = (before : Log) × (after : Log) × w.steps.Gives (Some
 EndsOver w files (Err outcome) =
     (before : Log) × (after : Log) × IsOfFiles outcome × w.steps.Stops (Some files) before outcome after
 
--- the text tells the numbers of a report: that of the program that the file gives, by the exploration in the given turns.
--- It is sound for the program, and the turns that are told are the steps of that exploration
+-- the text tells the numbers of a report: that of the program that the file gives, by the exploration in the given
+-- turns. It is sound for the program, and the turns that are told are the steps of that exploration
 pub record TellsSummary (files : Files) (text : List ℕ) : Type 0 where
   pub program : NumberedProgram
   pub graph : GraphParts

@@ -29,7 +29,8 @@ use Rattle.sweet_cli.specs.Analyse.{analysing, policy_of}
 use Rattle.sweet_cli.specs.Check.{accepted}
 use Rattle.sweet_cli.specs.Table.{task_of}
 
--- whatever was read before, told files have one answer to the words, but for a line that gives one example of several; and the same names are read, but for failed reads
+-- whatever was read before, told files have one answer to the words, but for a line that gives one example of several;
+-- and the same names are read, but for failed reads
 abbrev pub HaveOneAnswer : Type 0
 HaveOneAnswer = (words : List (List ℕ)) (files : Files) → HasOneEnding (task_of words).work files
 
@@ -49,8 +50,8 @@ pub record IsReportOf (given : AnalyseWords) (files : Files) (before : Log) (tex
   pub found : IsPrintedReport given.certified program.expanded.program program.expanded.graph tables.rows tables.costs (policy_of given.merging) given.turns given.pivots report
   pub text_is : text ≡ report_text report
 
--- a printed report is found in no fewer turns than its exploration makes steps, and is printed with each number of turns that is not below
--- them: the turns are no part of what it tells
+-- a printed report is found in no fewer turns than its exploration makes steps, and is printed with each number of
+-- turns that is not below them: the turns are no part of what it tells
 abbrev pub ReportsStay : Type 0
 ReportsStay = (given : AnalyseWords) (files : Files) (before after : Log) (text : List ℕ) → (analysing given).steps.Gives (Some files) before text after
     → (printed : IsReportOf given files before text) × (printed.found.analysis.found.pool.steps ≤ given.turns)
@@ -66,15 +67,17 @@ pub record HoldSame (given : AnalyseWords) (files later : Files) : Type 0 where
   pub inputs : IfSome given.inputs (λ file. later file ≡ files file)
   pub costs : IfSome given.costs (λ file. later file ≡ files file)
 
--- whatever was read before, the work of the words ends with `accepted` over these files, and with nothing else that tells no failed read
+-- whatever was read before, the work of the words ends with `accepted` over these files, and with nothing else that
+-- tells no failed read
 pub record EndsAccepted (words : List (List ℕ)) (files : Files) : Type 0 where
   pub ends : (before : Log) → (after : Log) × EndsSo (task_of words).work (Some files) before (Finished accepted) after
-  pub only : (before after : Log) (ending : Ending) → ending_unread ending ≡ None → EndsSo (task_of words).work (Some files) before ending after
+  pub only : (before after : Log) (ending : Ending) → ending_unread ending ≡ None
+      → EndsSo (task_of words).work (Some files) before ending after
       → ending ≡ Finished accepted
 
--- where the words of `analyse --cert` printed a text of told files, and later files hold it under some name, and the same under the names of
--- the program, the inputs and the costs, the words of `check` with these four names and the same root end with `accepted`, if `check` reads
--- files of so many bytes
+-- where the words of `analyse --cert` printed a text of told files, and later files hold it under some name, and the
+-- same under the names of the program, the inputs and the costs, the words of `check` with these four names and the
+-- same root end with `accepted`, if `check` reads files of so many bytes
 abbrev pub OwnReportsAreAccepted : Type 0
 OwnReportsAreAccepted = (words again : List (List ℕ)) (given : AnalyseWords) (report : List ℕ) → command_of words ≡ Some (Analyse given) → given.certified ≡ true
     → command_of again ≡ Some (Check (check_words given report))
@@ -82,8 +85,9 @@ OwnReportsAreAccepted = (words again : List (List ℕ)) (given : AnalyseWords) (
     → HoldSame given files later → later report ≡ Some text → length text ≤ most_report_bytes
     → EndsAccepted again later
 
--- where a told file of C gives the program and a told file of inputs its rows, the run from each list of numbers inside the ranges of these
--- rows has the outcome of the unit from the cells that hold these very numbers, and no other cells hold them
+-- where a told file of C gives the program and a told file of inputs its rows, the run from each list of numbers inside
+-- the ranges of these rows has the outcome of the unit from the cells that hold these very numbers, and no other cells
+-- hold them
 abbrev pub RunsOfCHaveTheirOwnOutcome : Type 0
 RunsOfCHaveTheirOwnOutcome = (file root : List ℕ) (inputs : Option (List ℕ)) (files : Files) (program : NumberedProgram) (rows : List InputRow) (numbers : List ℤ)
     → (of_unit : IsProgramOfUnit file root files program)

@@ -21,8 +21,9 @@ lowering given = do
   unit ← checked_unit_in given.file given.root
   done (canonical_text (lowered unit))
 
--- the file spells a unit that passes the checks; the text spells the program that it is lowered to, which passes the checks of ALF; and
--- each run of each checked program of it, from inputs inside their ranges, has the outcome of the unit from the cells that hold them
+-- the file spells a unit that passes the checks; the text spells the program that it is lowered to, which passes the
+-- checks of ALF; and each run of each checked program of it, from inputs inside their ranges, has the outcome of the
+-- unit from the cells that hold them
 pub record IsLoweredText (given : LowerWords) (files : Files) (text : List ℕ) : Type 0 where
   pub unit : UnitTree
   pub unit_told : IsToldUnit given.file given.root files unit

@@ -17,8 +17,8 @@ migrating file = do
   report ← report_in file
   done (report_text (migrated report))
 
--- the text spells the report of the told file in the second form, and is that report's canonical text; `report_forms` has the
--- law that it is sound exactly where the given one is
+-- the text spells the report of the told file in the second form, and is that report's canonical text; `report_forms`
+-- has the law that it is sound exactly where the given one is
 pub record IsMigratedReport (file : List ℕ) (files : Files) (text : List ℕ) : Type 0 where
   pub report : Reported
   pub report_told : IsToldReport file files report

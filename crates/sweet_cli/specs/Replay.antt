@@ -41,7 +41,8 @@ use Rattle.sweet_cli.specs.Words.{ReplayWords}
 use Rattle.sweet_cli.specs.Task.{Task}
 
 -- so is told of the run, by the outline of the program's graph, with names and costs of its nodes
-pub record IsReplayOf (program : NumberedProgram) (graph : GraphParts) (rows : List InputRow) (costs : CostTable) (report : Reported) (values : List ℤ) (told : Told) : Type 0 where
+pub record IsReplayOf (program : NumberedProgram) (graph : GraphParts) (rows : List InputRow) (costs : CostTable)
+    (report : Reported) (values : List ℤ) (told : Told) : Type 0 where
   pub outline : Outlined
   pub outline_is : IsOutlineOf (plan_of graph) (shape_of outline)
   pub names : map (λ row. row.name.items) outline.nodes ≡ graph.names
@@ -49,19 +50,22 @@ pub record IsReplayOf (program : NumberedProgram) (graph : GraphParts) (rows : L
   pub is : IsReplayed program graph.nodes rows outline report values told
 
 -- something speaks against the report, and the outcome tells the first
-pub record IsObjected (program : ScopedProgram) (rows : List InputRow) (costs : CostTable) (report : Reported) (values : List ℤ) (outcome : Outcome) : Type 0 where
+pub record IsObjected (program : ScopedProgram) (rows : List InputRow) (costs : CostTable) (report : Reported)
+    (values : List ℤ) (outcome : Outcome) : Type 0 where
   pub objection : Objection
   pub first : IsReplayOf program.expanded.program program.expanded.graph rows costs report values (Err objection)
   pub line : outcome ≡ record { cause = No; text = objection_line objection }
 
 -- the run's cost is told
-pub record IsHeld (program : ScopedProgram) (rows : List InputRow) (costs : CostTable) (report : Reported) (values : List ℤ) (text : List ℕ) : Type 0 where
+pub record IsHeld (program : ScopedProgram) (rows : List InputRow) (costs : CostTable) (report : Reported)
+    (values : List ℤ) (text : List ℕ) : Type 0 where
   pub cost : ℕ
   pub holds : IsReplayOf program.expanded.program program.expanded.graph rows costs report values (Ok cost)
   pub line : text ≡ holds_line cost
 
 -- its cost, or what speaks against the report
-abbrev pub ReplayMeans : ScopedProgram → List InputRow → CostTable → Reported → List ℤ → Result (List ℕ) Outcome → Type 0
+abbrev pub ReplayMeans : ScopedProgram → List InputRow → CostTable → Reported → List ℤ → Result (List ℕ) Outcome
+    → Type 0
 ReplayMeans program rows costs report values (Ok text) = IsHeld program rows costs report values text
 ReplayMeans program rows costs report values (Err outcome) = IsObjected program rows costs report values outcome
 
@@ -80,9 +84,10 @@ replaying given = do
 
 -- ---- the promise
 
--- the one run from these values, each inside its range, meets each line of the report, has an alarm for its fault, and costs so
--- much, which is at most each bound
-pub record HoldsOfRun (program : NumberedProgram) (graph : GraphParts) (rows : List InputRow) (costs : CostTable) (report : Reported) (values : List ℤ) (cost : ℕ) : Type 0 where
+-- the one run from these values, each inside its range, meets each line of the report, has an alarm for its fault, and
+-- costs so much, which is at most each bound
+pub record HoldsOfRun (program : NumberedProgram) (graph : GraphParts) (rows : List InputRow) (costs : CostTable)
+    (report : Reported) (values : List ℤ) (cost : ℕ) : Type 0 where
   pub outline : Outlined
   pub outline_is : IsOutlineOf (plan_of graph) (shape_of outline)
   pub inside : AreWithin rows values
@@ -96,7 +101,8 @@ pub record HoldsOfRun (program : NumberedProgram) (graph : GraphParts) (rows : L
   pub path : IfSome report.path_bound (λ b. cost ≤ b.0)
 
 -- so it is of the report and the values of the told files, and the text tells the cost
-pub record IsHeldTold (given : ReplayWords) (files : Files) (program : NumberedProgram) (graph : GraphParts) (rows : List InputRow)
+pub record IsHeldTold (given : ReplayWords) (files : Files) (program : NumberedProgram) (graph : GraphParts)
+    (rows : List InputRow)
     (costs : CostTable) (text : List ℕ) : Type 0 where
   pub report : Reported
   pub values : List ℤ

@@ -45,7 +45,8 @@ abbrev pub low_start : NumberedProgram → List InputRow → Moment
 low_start program rows = start program rows (low_words rows)
 
 -- the text tells the run from there, which has no more nodes than the turns
-pub record IsRunText (expanded : Expanded) (rows : List InputRow) (costs : CostTable) (turns : ℕ) (text : List ℕ) : Type 0 where
+pub record IsRunText (expanded : Expanded) (rows : List InputRow) (costs : CostTable) (turns : ℕ)
+    (text : List ℕ) : Type 0 where
   pub trace : List ℕ
   pub outcome : RunOutcome
   pub runs : Runs expanded.program expanded.graph.nodes (low_start expanded.program rows) trace outcome
@@ -64,8 +65,8 @@ running given = do
   text ← judged (RunMeans program tables.rows tables.costs given.turns)
   done text
 
--- the text tells this run of the program that the file gives, by the files that the words name; where the file is one of C, its
--- outcome is that of the unit from the cells that hold its inputs (`IsToldProgram`)
+-- the text tells this run of the program that the file gives, by the files that the words name; where the file is one
+-- of C, its outcome is that of the unit from the cells that hold its inputs (`IsToldProgram`)
 pub record TellsRun (given : RunWords) (files : Files) (text : List ℕ) : Type 0 where
   pub program : NumberedProgram
   pub graph : GraphParts

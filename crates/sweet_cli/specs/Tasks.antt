@@ -37,8 +37,8 @@ answering file = do
   times ← judged (ResponsesMean tasks)
   done (response_text tasks times)
 
--- the text tells the response times of the tasks that the file means; and after each list of allowed events no job of a task is pending
--- that was released so long ago
+-- the text tells the response times of the tasks that the file means; and after each list of allowed events no job of a
+-- task is pending that was released so long ago
 pub record TellsResponses (file : List ℕ) (files : Files) (text : List ℕ) : Type 0 where
   pub bytes : List ℕ
   pub tasks : List TimedTask

@@ -56,9 +56,9 @@ worsting given = do
   done (worst_text found)
 
 -- the text tells boxes of inputs of the program that the file gives, by the files that the words name: those where
--- splitting ends, each with the path bound that `analyse` prints for its ranges. They cover the ranges; each run with an
--- input inside a box costs at most its bound; and where the last line says so, the greatest bound is the greatest cost of
--- a run with an input inside the ranges
+-- splitting ends, each with the path bound that `analyse` prints for its ranges. They cover the ranges; each run with
+-- an input inside a box costs at most its bound; and where the last line says so, the greatest bound is the greatest
+-- cost of a run with an input inside the ranges
 pub record TellsWorst (given : WorstWords) (files : Files) (text : List ℕ) : Type 0 where
   pub program : NumberedProgram
   pub graph : GraphParts

@@ -63,8 +63,8 @@ pub fn each_run_of_c_has_the_outcome_from_its_own_cells()
     a_file_has_one_answer();
 }
 
-/// States are merged nowhere after `none`, where a scope is left after `exits`, and everywhere after `joins`, and as well
-/// where no word is given. Does nothing when it is called.
+/// States are merged nowhere after `none`, where a scope is left after `exits`, and everywhere after `joins`, and as
+/// well where no word is given. Does nothing when it is called.
 pub fn merges_have_their_policies()
     ensures none { option_map policy_of (merging_or_joins (Some (codes "none"))) ≡ Some policies.None }
     ensures exits { option_map policy_of (merging_or_joins (Some (codes "exits"))) ≡ Some policies.Exits }

@@ -12,7 +12,9 @@ use std::alloc::{AllocError, Global};
 
 /// The cost of each node, by their numbers.
 pub fn node_costs(alloc: Global, graph: &Graph, costs: &Costs) -> Result<Vec<u32>, AllocError>
-    ensures { IfOk result (λ all. (program : NumberedProgram) → IsGraph program graph.now → all.items ≡ map (node_cost program costs.now) graph.now.nodes) }
+    ensures { IfOk result
+        (λ all. (program : NumberedProgram) → IsGraph program graph.now
+        → all.items ≡ map (node_cost program costs.now) graph.now.nodes) }
 {
     let mut all = Vec::new(alloc);
     for n in 0..graph.node_count() {
@@ -24,7 +26,8 @@ pub fn node_costs(alloc: Global, graph: &Graph, costs: &Costs) -> Result<Vec<u32
 // The cost of a node: an entry costs nothing.
 fn node_cost(graph: &Graph, costs: &Costs, n: u32) -> u32
     requires { n < length graph.now.nodes }
-    ensures { (program : NumberedProgram) (node : Node) → IsGraph program graph.now → slice_get graph.now.nodes n ≡ Some node → result ≡ node_cost program costs.now node }
+    ensures { (program : NumberedProgram) (node : Node) → IsGraph program graph.now
+        → slice_get graph.now.nodes n ≡ Some node → result ≡ node_cost program costs.now node }
 {
     let node = graph.node(n);
     match node.block {

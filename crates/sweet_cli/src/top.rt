@@ -30,11 +30,15 @@ pub fn run<F: Shelf, W: Sink>(alloc: Global, words: &[String], shelf: &mut F, ou
 
     // After `Done` what was written keeps the promise of the command.
     ensures promised { result ≡ Status.Done
-        → IfSome (F.state shelf.old).files (λ files. Promised (task_of (map string_bytes words.now)) files (W.state out.old) (W.state out.new)) }
+        → IfSome (F.state shelf.old).files
+        (λ files. Promised (task_of (map string_bytes words.now)) files (W.state out.old) (W.state out.new)) }
 
     // A failed read that is told has happened, and its name is kept; no other read has failed.
-    ensures unread { result ≡ Status.ReadFailed → (name : List ℕ) × Rose (F.state shelf.old).faults (F.state shelf.new).faults × ((F.state shelf.new).failed ≡ Some name) }
-    ensures no_other_read { IsAnswered result → (result ≡ Status.ReadFailed → ⊥) → (F.state shelf.new).failed ≡ (F.state shelf.old).failed }
+    ensures unread { result ≡ Status.ReadFailed
+        → (name : List ℕ) × Rose (F.state shelf.old).faults (F.state shelf.new).faults
+        × ((F.state shelf.new).failed ≡ Some name) }
+    ensures no_other_read { IsAnswered result → (result ≡ Status.ReadFailed → ⊥)
+        → (F.state shelf.new).failed ≡ (F.state shelf.old).failed }
 
     ensures same_files { (F.state shelf.new).files ≡ (F.state shelf.old).files }
 
@@ -47,9 +51,11 @@ pub fn run<F: Shelf, W: Sink>(alloc: Global, words: &[String], shelf: &mut F, ou
     ensures nothing_written { result ≡ Status.Memory → WroteNothing (W.state out.old) (W.state out.new) }
 
     // Where no read and no write failed, this is the answer of the told files, or memory ran out.
-    ensures settled { (Rose (F.state shelf.old).faults (F.state shelf.new).faults → ⊥) → (Rose (W.state out.old).faults (W.state out.new).faults → ⊥)
+    ensures settled { (Rose (F.state shelf.old).faults (F.state shelf.new).faults → ⊥)
+        → (Rose (W.state out.old).faults (W.state out.new).faults → ⊥)
         → (result ≡ Status.Memory) ⊎ IfSome (F.state shelf.old).files (λ files. (text : List ℕ)
-        × IsAnswerOf (task_of (map string_bytes words.now)).work files result text × Wrote text (W.state out.old) (W.state out.new)) }
+        × IsAnswerOf (task_of (map string_bytes words.now)).work files result text
+        × Wrote text (W.state out.old) (W.state out.new)) }
 {
     let Some(answer) = words_answer(alloc, words, shelf) else {
         return Status::Memory;
@@ -71,7 +77,8 @@ pub fn run_in_memory(
     ensures no_failed_read { result ≡ Status.ReadFailed → ⊥ }
     ensures no_failed_write { result ≡ Status.WriteFailed → ⊥ }
     ensures settled { (result ≡ Status.Memory) ⊎ ((text : List ℕ) × (out.new.taken ≡ out.old.taken ++ text)
-        × IsAnswerOf (task_of (map string_bytes words.now)).work (λ name. Some (content_of shelf.old.files name)) result text) }
+        × IsAnswerOf (task_of (map string_bytes words.now)).work (λ name. Some (content_of shelf.old.files name)) result
+        text) }
 {
     run(alloc, words, shelf, out)
 }

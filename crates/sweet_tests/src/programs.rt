@@ -1,7 +1,7 @@
 //! Small programs as ALF, each as it comes out of a program of C.
 
-// The name of each, in a line of its own, the program of C in the next, and then the one of ALF. An empty line stands between
-// two.
+// The name of each, in a line of its own, the program of C in the next, and then the one of ALF. An empty line stands
+// between two.
 static PROGRAMS: &str = r#"a loop of ten turns
 int main(void){int i=0; while(i<10) i=i+1; return i;}
 { alf { macro_defs } { least_addr_unit 8 } little_endian { exports { frefs } { lrefs } } { imports { frefs } { lrefs

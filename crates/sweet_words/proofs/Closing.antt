@@ -22,13 +22,15 @@ use Rattle.sweet_words.proofs.Walking.{seat, seats, valued, flagged, optional, b
 abbrev pub row : Text × Text → Row
 row entry = record { id = entry.0; values = entry.1 ∷ []; count = None; source = Some CommandLine; reading = AsWritten }
 
-pub row_added : (id : Text) (change : Row → List Row) (missing rows : List Row) → has_row id rows ≡ false → at_row id change missing rows ≡ rows ++ missing
+pub row_added : (id : Text) (change : Row → List Row) (missing rows : List Row) → has_row id rows ≡ false
+    → at_row id change missing rows ≡ rows ++ missing
 row_added id change missing [] none = refl
 row_added id change missing (r ∷ rows) none = by_test (bytes_eq r.id id)
     (λ e. let bad : true ≡ false = rw e at none in absurd (cc))
     (λ e. let later : has_row id rows ≡ false = rw e at none in rw e (ap (λ rs. r ∷ rs) (row_added id change missing rows later)))
 
-with_row_added : (name value : Text) (rows : List Row) → has_row name rows ≡ false → with_row name value rows ≡ rows ++ row (name, value) ∷ []
+with_row_added : (name value : Text) (rows : List Row) → has_row name rows ≡ false
+    → with_row name value rows ≡ rows ++ row (name, value) ∷ []
 with_row_added name value rows none =
     let same : at_row name (λ _. []) [] rows ≡ rows = row_added name (λ _. []) [] rows none ∙ append-nil rows in
     ap (λ rs. at_row name (more_values CommandLine (value ∷ [])) (row (name, value) ∷ []) rs) same ∙ row_added name (more_values CommandLine (value ∷ [])) (row (name, value) ∷ []) rows none
@@ -39,7 +41,8 @@ used_rows name uses = sym (list_any-map (λ (r : Row). bytes_eq r.id name) row u
 abbrev if_once : Bool → Uses → Rows
 if_once once uses = if once then Some (map row uses) else None
 
-map_row_append : (before : Uses) (entry : Text × Text) → map row before ++ row entry ∷ [] ≡ map row (before ++ entry ∷ [])
+map_row_append : (before : Uses) (entry : Text × Text)
+    → map row before ++ row entry ∷ [] ≡ map row (before ++ entry ∷ [])
 map_row_append [] entry = refl
 map_row_append (first ∷ before) entry = ap (λ rs. row first ∷ rs) (map_row_append before entry)
 
@@ -61,12 +64,14 @@ unfolding defaults_fault
 flags_default [] rows = refl
 flags_default (name ∷ names) rows = rw (no_default_fault rows (flagged name) refl) (flags_default names (with_default rows (flagged name)))
 
-values_default : (names flags : List Text) (rows : List Row) → defaults_fault rows (map valued names ++ map flagged flags) ≡ []
+values_default : (names flags : List Text) (rows : List Row)
+    → defaults_fault rows (map valued names ++ map flagged flags) ≡ []
 unfolding defaults_fault
 values_default [] flags rows = flags_default flags rows
 values_default (name ∷ names) flags rows = rw (no_default_fault rows (valued name) refl) (values_default names flags (with_default rows (valued name)))
 
-seats_default : (i : ℕ) (names : List Text) (rest : List Rule) → ((rows : List Row) → defaults_fault rows rest ≡ []) → (rows : List Row) → defaults_fault rows (seats i names rest) ≡ []
+seats_default : (i : ℕ) (names : List Text) (rest : List Rule) → ((rows : List Row) → defaults_fault rows rest ≡ [])
+    → (rows : List Row) → defaults_fault rows (seats i names rest) ≡ []
 unfolding defaults_fault
 seats_default i [] rest pass rows = pass rows
 seats_default i (name ∷ names) rest pass rows =
@@ -79,18 +84,21 @@ defaults_pass form = seats_default 1 form.positionals (optional form) (values_de
 -- ---- what is required
 
 -- the row of a default gives nothing
-default_gives : (id : Text) (r : Row) → explicit_source r.source ≡ false → (rows : List Row) → is_given id (rows ++ r ∷ []) ≡ is_given id rows
+default_gives : (id : Text) (r : Row) → explicit_source r.source ≡ false → (rows : List Row)
+    → is_given id (rows ++ r ∷ []) ≡ is_given id rows
 default_gives id r weak [] = by_test (bytes_eq r.id id) (λ e. rw (e, weak) refl) (λ e. rw e refl)
 default_gives id r weak (first ∷ rows) = by_test (bytes_eq first.id id) (λ e. rw e refl) (λ e. rw e (default_gives id r weak rows))
 
 default_kept : (id : Text) (rows : List Row) (a : Rule) → is_given id (with_default rows a) ≡ is_given id rows
 default_kept id rows a = by_test (has_row a.id rows) (λ e. rw e refl) (λ e. rw e (go a.defaults e))
   where
-    go : (defaults : List Text) → has_row a.id rows ≡ false → is_given id (default_rows a.id (reading_by a) defaults rows) ≡ is_given id rows
+    go : (defaults : List Text) → has_row a.id rows ≡ false
+        → is_given id (default_rows a.id (reading_by a) defaults rows) ≡ is_given id rows
     go [] e = refl
     go (v ∷ vs) e = ap (is_given id) (row_added a.id (more_values DefaultValue (v ∷ vs)) _ rows e) ∙ default_gives id _ refl rows
 
-defaults_kept : (id : Text) (rules : List Rule) (rows : List Row) → is_given id (fold with_default rows rules) ≡ is_given id rows
+defaults_kept : (id : Text) (rules : List Rule) (rows : List Row)
+    → is_given id (fold with_default rows rules) ≡ is_given id rows
 defaults_kept id [] rows = refl
 defaults_kept id (a ∷ rules) rows = defaults_kept id rules (with_default rows a) ∙ default_kept id rows a
 
@@ -105,12 +113,14 @@ flags_lack : (names : List Text) (rows : List Row) → list_any (lacks rows) (ma
 flags_lack [] rows = refl
 flags_lack (name ∷ names) rows = flags_lack names rows
 
-values_lack : (names flags : List Text) (rows : List Row) → list_any (lacks rows) (map valued names ++ map flagged flags) ≡ false
+values_lack : (names flags : List Text) (rows : List Row)
+    → list_any (lacks rows) (map valued names ++ map flagged flags) ≡ false
 values_lack [] flags rows = flags_lack flags rows
 values_lack (name ∷ names) flags rows = values_lack names flags rows
 
 -- a positional is lacking exactly where it is not used
-seats_lack : (i : ℕ) (names : List Text) (rest : List Rule) (rows : List Row) (uses : Uses) → ((id : Text) → is_given id rows ≡ is_used id uses)
+seats_lack : (i : ℕ) (names : List Text) (rest : List Rule) (rows : List Row) (uses : Uses)
+    → ((id : Text) → is_given id rows ≡ is_used id uses)
     → list_any (lacks rows) rest ≡ false → list_any (lacks rows) (seats i names rest) ≡ not (list_all (λ name. is_used name uses) names)
 seats_lack i [] rest rows uses same none = none
 seats_lack i (name ∷ names) rest rows uses same none = by_test (is_used name uses)
@@ -124,7 +134,8 @@ abbrev closing : Form → List Row → Rows
 closing form rows = guard (defaults_fault rows (built_rules form))
     (guard (check_fault (built_shape form) (fold with_default rows (built_rules form)) false) (Some (fold with_default rows (built_rules form))))
 
-guard_then : (a : Kinds) (rows : Rows) (f : List Row → Rows) → guard a (option_and_then f rows) ≡ option_and_then f (guard a rows)
+guard_then : (a : Kinds) (rows : Rows) (f : List Row → Rows)
+    → guard a (option_and_then f rows) ≡ option_and_then f (guard a rows)
 guard_then [] rows f = refl
 guard_then (k ∷ ks) rows f = refl
 
@@ -161,7 +172,8 @@ closes form uses =
     (λ e. rw (lack, e) refl))
 
 -- the words of a command pass exactly where they are whole uses, and give the rows of these
-pub level_is : (form : Form) → HasSeats (built_rules form) 1 form.positionals → Serves form (built_rules form) → (words : List Text)
+pub level_is : (form : Form) → HasSeats (built_rules form) 1 form.positionals → Serves form (built_rules form)
+    → (words : List Text)
     → level_rows form words ≡ option_map (rows_with_defaults form) (uses_of form words)
 level_is form seated serves words =
     level_splits form words

@@ -78,7 +78,8 @@ pub record IsForm (form : Form) : Type 0 where
   pub seats : HasSeats (built_rules form) 1 form.positionals
   pub values : HasValues (built_rules form) form.values
 
-form_is : (word : Text) (table : List Form) (form : Form) → IsTable table → form_named word table ≡ Some form → IsForm form
+form_is : (word : Text) (table : List Form) (form : Form) → IsTable table → form_named word table ≡ Some form
+    → IsForm form
 form_is word [] form has e = absurd (cc)
 form_is word (first ∷ table) form has e = by_test (bytes_eq first.name word)
     (λ here. let same : Some first ≡ Some form = rw here at e in let it : first ≡ form = cc in subst IsForm it (record { seats = has.0; values = has.1 }))
@@ -89,7 +90,8 @@ simple = refl
 
 -- ---- the words
 
-fault_is : (table : List Form) (words : List Text) → fault_of (program_of table) words ≡ built_fault (built_program table) nothing_held words
+fault_is : (table : List Form) (words : List Text)
+    → fault_of (program_of table) words ≡ built_fault (built_program table) nothing_held words
 fault_is table words = ap (λ (a : App). built_fault a nothing_held words) (built_is table)
 
 subcommand_is : (name : Text) (words : List Text) (form : Form) → form_named name forms ≡ Some form
@@ -98,7 +100,8 @@ subcommand_is name words form e =
     ap (λ (a : App). entered a (stop_after a.top.rules (names_of a) (name ∷ words))) (built_is forms) ∙ entered_named name words forms form e
 
 -- the words of one command of a table, by the fault of the whole
-pub level_at : (table : List Form) → IsTable table → (name : Text) (words : List Text) (form : Form) → form_named name table ≡ Some form
+pub level_at : (table : List Form) → IsTable table → (name : Text) (words : List Text) (form : Form)
+    → form_named name table ≡ Some form
     → guard (fault_of (program_of table) (name ∷ words)) (Some (rows_after (built_rules form) [] words)) ≡ option_map (rows_with_defaults form) (uses_of form words)
 level_at table are name words form e =
     let is = form_is name table form are e in
@@ -106,7 +109,8 @@ level_at table are name words form e =
     ∙ named_level name words table form (Some (rows_after (built_rules form) [] words)) e
     ∙ level_is form is.seats (serves form is.values) words
 
-rows_make : (form : Form) (rows : List Row) (found : Option Uses) → Some rows ≡ option_map (rows_with_defaults form) found
+rows_make : (form : Form) (rows : List Row) (found : Option Uses)
+    → Some rows ≡ option_map (rows_with_defaults form) found
     → command_named form.name (λ id. first_of id rows) ≡ option_and_then (λ uses. command_named form.name (value_in form uses)) found
 rows_make form rows None e = absurd (cc)
 rows_make form rows (Some uses) e =
@@ -119,12 +123,14 @@ no_rows form None e = refl
 no_rows form (Some uses) e = absurd (cc)
 
 -- words that are taken are the command that their rows make
-pub taken : (words : List Text) → fault_of program words ≡ [] → command_from (subcommand_of program words) ≡ command_of words
+pub taken : (words : List Text) → fault_of program words ≡ []
+    → command_from (subcommand_of program words) ≡ command_of words
 taken [] none = absurd (let bad : guard (fault_of program []) (Some []) ≡ None = ap (λ kinds. guard kinds (Some [])) (fault_is forms []) ∙ empty_fails forms (Some []) in
     let good : Some [] ≡ None = rw none at bad in cc)
 taken (name ∷ words) none = go (form_named name forms) refl
   where
-    go : (found : Option Form) → form_named name forms ≡ found → command_from (subcommand_of program (name ∷ words)) ≡ command_of (name ∷ words)
+    go : (found : Option Form) → form_named name forms ≡ found
+        → command_from (subcommand_of program (name ∷ words)) ≡ command_of (name ∷ words)
     go None e = absurd (let bad : guard (fault_of program (name ∷ words)) (Some []) ≡ None =
         ap (λ kinds. guard kinds (Some [])) (fault_is forms (name ∷ words)) ∙ unnamed_fails name words forms (Some []) e in
         let good : Some [] ≡ None = rw none at bad in cc)
@@ -136,7 +142,8 @@ taken (name ∷ words) none = go (form_named name forms) refl
         ∙ ap (option_and_then (λ f. command_in f words)) (sym e)
 
 -- words that are refused are no command
-pub refused : (words : List Text) (kind : ErrorKind) (kinds : Kinds) → fault_of program words ≡ kind ∷ kinds → command_of words ≡ None
+pub refused : (words : List Text) (kind : ErrorKind) (kinds : Kinds) → fault_of program words ≡ kind ∷ kinds
+    → command_of words ≡ None
 refused [] kind kinds some = refl
 refused (name ∷ words) kind kinds some = go (form_named name forms) refl
   where

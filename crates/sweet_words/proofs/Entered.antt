@@ -27,12 +27,14 @@ use Rattle.sweet_words.proofs.Deciding.{simple, taken, refused}
 use Rattle.sweet_words.specs.Matched.{command_from}
 
 -- a pair that has this name and these rows
-pair_is : (found : Option (Text × List Row)) (name : Text) (rows : List Row) → Some name ≡ option_map (λ p. p.0) found → Some rows ≡ option_map (λ p. p.1) found
+pair_is : (found : Option (Text × List Row)) (name : Text) (rows : List Row) → Some name ≡ option_map (λ p. p.0) found
+    → Some rows ≡ option_map (λ p. p.1) found
     → found ≡ Some (name, rows)
 pair_is None name rows first second = absurd (cc)
 pair_is (Some (n, rs)) name rows first second = cc
 
-name_in_rows : {Z : Type 0} (o : Option (Box SubCommand Z)) → option_map (λ b. (out-SubCommand (box_value b)).name.now) o ≡ option_map (λ p. p.0) (subcommand_rows o)
+name_in_rows : {Z : Type 0} (o : Option (Box SubCommand Z))
+    → option_map (λ b. (out-SubCommand (box_value b)).name.now) o ≡ option_map (λ p. p.0) (subcommand_rows o)
 name_in_rows None = refl
 name_in_rows (Some b) = refl
 
@@ -58,7 +60,8 @@ taken_command app words sub rows all meant is none matches from =
     from ∙ ap command_from sub_here ∙ taken words none_here
 
 -- the words are refused, and not for want of memory
-pub refused_words : (app : App) (words : List Text) (e : Error) → app ≡ program → (is_simple_and_free app ≡ true → HasKind (fault_of app words) e) → kind_of e ≢ OutOfMemory
+pub refused_words : (app : App) (words : List Text) (e : Error) → app ≡ program
+    → (is_simple_and_free app ≡ true → HasKind (fault_of app words) e) → kind_of e ≢ OutOfMemory
     → command_of words ≡ None
 refused_words app words e is has other = go (fault_of program words) refl
   where
@@ -70,12 +73,14 @@ refused_words app words e is has other = go (fault_of program words) refl
     go (kind ∷ kinds) at = refused words kind kinds at
 
 -- the answer in place of a command that may be none
-pub answer_command : (found : Option Value) (result : Result Value WordsFault) (meaning : Option Command) → result ≡ ok_or found Usage → option_map command_meant found ≡ meaning
+pub answer_command : (found : Option Value) (result : Result Value WordsFault) (meaning : Option Command)
+    → result ≡ ok_or found Usage → option_map command_meant found ≡ meaning
     → IfOk result (λ command. meaning ≡ Some (command_meant command))
 answer_command None result meaning is means = subst (λ (r : Result Value WordsFault). IfOk r (λ command. meaning ≡ Some (command_meant command))) (sym is) tt
 answer_command (Some command) result meaning is means = subst (λ (r : Result Value WordsFault). IfOk r (λ command. meaning ≡ Some (command_meant command))) (sym is) (sym means)
 
-pub answer_usage : (found : Option Value) (result : Result Value WordsFault) (meaning : Option Command) → result ≡ ok_or found Usage → option_map command_meant found ≡ meaning
+pub answer_usage : (found : Option Value) (result : Result Value WordsFault) (meaning : Option Command)
+    → result ≡ ok_or found Usage → option_map command_meant found ≡ meaning
     → result ≡ Err Usage → meaning ≡ None
 answer_usage None result meaning is means usage = sym means
 answer_usage (Some command) result meaning is means usage = absurd (let bad : Ok command ≡ Err Usage = sym is ∙ usage in cc)

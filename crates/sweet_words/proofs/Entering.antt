@@ -20,7 +20,8 @@ fill_flags : (i : ℕ) (names : List Text) → filled_from i (map flag_rule name
 fill_flags i [] = refl
 fill_flags i (name ∷ names) = ap (λ rs. flagged name ∷ rs) (fill_flags i names)
 
-fill_values : (i : ℕ) (names flags : List Text) → filled_from i (map value_rule names ++ map flag_rule flags) ≡ map valued names ++ map flagged flags
+fill_values : (i : ℕ) (names flags : List Text)
+    → filled_from i (map value_rule names ++ map flag_rule flags) ≡ map valued names ++ map flagged flags
 fill_values i [] flags = fill_flags i flags
 fill_values i (name ∷ names) flags = ap (λ rs. valued name ∷ rs) (fill_values i names flags)
 
@@ -39,7 +40,8 @@ built_program table = record { top = built_top; subs = map built_shape table }
 built_sub : (form : Form) → built_leaf (inherited built_top (shape_in form)) ≡ built_shape form
 built_sub form = ap (leaf form.name) (fill_seats 1 form.positionals form.values form.flags)
 
-built_subs : (table : List Form) → map built_leaf (map (inherited built_top) (map shape_in table)) ≡ map built_shape table
+built_subs : (table : List Form)
+    → map built_leaf (map (inherited built_top) (map shape_in table)) ≡ map built_shape table
 built_subs [] = refl
 built_subs (form ∷ table) = (λ i. built_sub form i ∷ built_subs table i)
 
@@ -108,7 +110,8 @@ fault_entered word words table form e =
     rw (subs_found form.name table, found) refl
 
 -- the fault is that of the command alone
-pub named_level : (word : Text) (words : List Text) (table : List Form) (form : Form) (rows : Rows) → form_named word table ≡ Some form
+pub named_level : (word : Text) (words : List Text) (table : List Form) (form : Form) (rows : Rows)
+    → form_named word table ≡ Some form
     → guard (built_fault (built_program table) nothing_held (word ∷ words)) rows ≡ guard (level_fault (built_shape form) [] nothing_held words false []) rows
 unfolding defaults_fault
 named_level word words table form rows e =
@@ -120,18 +123,21 @@ named_level word words table form rows e =
 abbrev after_end : Walk
 after_end = record { held = nothing_held; waiting = idle; position = 1; is_trailing = true; stopped = None }
 
-end_walk : (word : Text) (words : List Text) (table : List Form) → form_named word table ≡ None → bytes_eq word (45 ∷ 45 ∷ []) ≡ true
+end_walk : (word : Text) (words : List Text) (table : List Form) → form_named word table ≡ None
+    → bytes_eq word (45 ∷ 45 ∷ []) ≡ true
     → fold (walked [] (names_of (built_program table))) (walk_from nothing_held) (word ∷ words) ≡ fold (walked [] (names_of (built_program table))) after_end words
 unfolding walked
 end_walk word words table e ends = rw (names_found word table, e, ends) refl
 
-end_fault : (word : Text) (words : List Text) (table : List Form) → form_named word table ≡ None → bytes_eq word (45 ∷ 45 ∷ []) ≡ true
+end_fault : (word : Text) (words : List Text) (table : List Form) → form_named word table ≡ None
+    → bytes_eq word (45 ∷ 45 ∷ []) ≡ true
     → walk_fault built_top (names_of (built_program table)) (walk_from nothing_held) (word ∷ words) ≡ walk_fault built_top (names_of (built_program table)) after_end words
 unfolding walk_fault walked
 end_fault word words table e ends = rw (names_found word table, e, ends) refl
 
 -- after `--` a word stands for nothing, and without one the command is missing
-end_fails : (word : Text) (words : List Text) (table : List Form) (rows : Rows) → form_named word table ≡ None → bytes_eq word (45 ∷ 45 ∷ []) ≡ true
+end_fails : (word : Text) (words : List Text) (table : List Form) (rows : Rows) → form_named word table ≡ None
+    → bytes_eq word (45 ∷ 45 ∷ []) ≡ true
     → guard (built_fault (built_program table) nothing_held (word ∷ words)) rows ≡ None
 unfolding walk_fault defaults_fault
 end_fails word [] table rows e ends = rw (end_fault word [] table e ends, end_walk word [] table e ends) refl
@@ -149,12 +155,14 @@ unnamed_fails word words table rows e = elim (look [] (λ c. refl) word) [
 ]
 
 -- no word is no command
-pub empty_fails : (table : List Form) (rows : Rows) → guard (built_fault (built_program table) nothing_held []) rows ≡ None
+pub empty_fails : (table : List Form) (rows : Rows)
+    → guard (built_fault (built_program table) nothing_held []) rows ≡ None
 unfolding walk_fault walked defaults_fault
 empty_fails table rows = refl
 
 -- the subcommand is met with its rows
-pub entered_named : (word : Text) (words : List Text) (table : List Form) (form : Form) → form_named word table ≡ Some form
+pub entered_named : (word : Text) (words : List Text) (table : List Form) (form : Form)
+    → form_named word table ≡ Some form
     → entered (built_program table) (stop_after [] (names_of (built_program table)) (word ∷ words)) ≡ Some (form.name, rows_after (built_rules form) [] words)
 entered_named word words table form e =
     ap (λ (w : Walk). entered (built_program table) w.stopped) (named_walk word words table form e) ∙ entered_is word words table form e

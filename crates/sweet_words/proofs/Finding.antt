@@ -37,7 +37,8 @@ stands : (found other : Option Text) → true ≡ is_some found → found ≡ or
 stands (Some text) other e = refl
 stands None other e = absurd (cc)
 
-first_added : (id name : Text) (rows : List Row) → Filled id rows → first_of id (rows ++ left_out name ∷ []) ≡ or_other (first_of id rows) (false_if (bytes_eq name id))
+first_added : (id name : Text) (rows : List Row) → Filled id rows
+    → first_of id (rows ++ left_out name ∷ []) ≡ or_other (first_of id rows) (false_if (bytes_eq name id))
 first_added id name [] filled = by_test (bytes_eq name id) (λ e. rw e refl) (λ e. rw e refl)
 first_added id name (r ∷ rows) filled = by_test (bytes_eq r.id id)
     (λ e. let there : true ≡ is_some (slice_get r.values 0) = rw e at filled in rw e (stands (slice_get r.values 0) (false_if (bytes_eq name id)) there))
@@ -74,10 +75,12 @@ or_used id name names rows filled has = by_test (bytes_eq name id)
 default_stays : (name : Text) (rows : List Row) → has_row name rows ≡ true → with_default rows (flagged name) ≡ rows
 default_stays name rows e = rw e refl
 
-default_comes : (name : Text) (rows : List Row) → has_row name rows ≡ false → with_default rows (flagged name) ≡ rows ++ left_out name ∷ []
+default_comes : (name : Text) (rows : List Row) → has_row name rows ≡ false
+    → with_default rows (flagged name) ≡ rows ++ left_out name ∷ []
 default_comes name rows e = rw e (row_added name (more_values DefaultValue (codes "false" ∷ [])) (left_out name ∷ []) rows e)
 
-flags_default : (id : Text) (names : List Text) (rows : List Row) → Filled id rows → first_of id (fold with_default rows (map flagged names)) ≡ or_false (first_of id rows) (named id names)
+flags_default : (id : Text) (names : List Text) (rows : List Row) → Filled id rows
+    → first_of id (fold with_default rows (map flagged names)) ≡ or_false (first_of id rows) (named id names)
 flags_default id [] rows filled = or_none (first_of id rows)
 flags_default id (name ∷ names) rows filled = by_test (has_row name rows)
     (λ e. ap (λ (rs : List Row). first_of id (fold with_default rs (map flagged names))) (default_stays name rows e)
@@ -90,12 +93,14 @@ flags_default id (name ∷ names) rows filled = by_test (has_row name rows)
 no_default : (a : Rule) (rows : List Row) → a.defaults ≡ [] → with_default rows a ≡ rows
 no_default a rows e = by_test (has_row a.id rows) (λ t. rw t refl) (λ t. rw (t, e) refl)
 
-values_default : (names flags : List Text) (rows : List Row) → fold with_default rows (map valued names ++ map flagged flags) ≡ fold with_default rows (map flagged flags)
+values_default : (names flags : List Text) (rows : List Row)
+    → fold with_default rows (map valued names ++ map flagged flags) ≡ fold with_default rows (map flagged flags)
 values_default [] flags rows = refl
 values_default (name ∷ names) flags rows =
     ap (λ (rs : List Row). fold with_default rs (map valued names ++ map flagged flags)) (no_default (valued name) rows refl) ∙ values_default names flags rows
 
-seats_default : (i : ℕ) (names : List Text) (rest : List Rule) (rows : List Row) → fold with_default rows (seats i names rest) ≡ fold with_default rows rest
+seats_default : (i : ℕ) (names : List Text) (rest : List Rule) (rows : List Row)
+    → fold with_default rows (seats i names rest) ≡ fold with_default rows rest
 seats_default i [] rest rows = refl
 seats_default i (name ∷ names) rest rows =
     ap (λ (rs : List Row). fold with_default rs (seats (min (i + 1) usize_max) names rest)) (no_default (seat name i) rows refl)
@@ -106,7 +111,8 @@ first_used id [] = refl
 first_used id (entry ∷ uses) = by_test (bytes_eq entry.0 id) (λ e. rw e refl) (λ e. rw e (first_used id uses))
 
 -- the value of a name in the rows is that of its use, or of its flag
-pub value_is : (form : Form) (uses : Uses) (id : Text) → first_of id (rows_with_defaults form uses) ≡ value_in form uses id
+pub value_is : (form : Form) (uses : Uses) (id : Text)
+    → first_of id (rows_with_defaults form uses) ≡ value_in form uses id
 value_is form uses id =
     ap (first_of id) (seats_default 1 form.positionals (optional form) (map row uses) ∙ values_default form.values form.flags (map row uses))
     ∙ flags_default id form.flags (map row uses) (filled_uses id uses)

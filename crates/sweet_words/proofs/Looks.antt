@@ -22,7 +22,8 @@ by_test false holds fails = fails refl
 pub record IsPlainWord (rules : List Rule) (word : Text) : Type 0 where
   pub plain : is_plain word ≡ true
   pub no_end : bytes_eq word (45 ∷ 45 ∷ []) ≡ false
-  pub fault : (rows : List Row) (pending : Option (Text × List Text)) → flag_word_fault rules false (long_of word) word (holding rows pending) ≡ []
+  pub fault : (rows : List Row) (pending : Option (Text × List Text))
+      → flag_word_fault rules false (long_of word) word (holding rows pending) ≡ []
   pub met : (waiting : Waiting) (rows : List Row) (pending : Option (Text × List Text))
       → long_or_other rules waiting word (long_of word) (holding rows pending) ≡ plain_word rules waiting word (holding rows pending)
 
@@ -42,7 +43,8 @@ pub record IsShort (rules : List Rule) (word : Text) : Type 0 where
   pub plain : is_plain word ≡ false
   pub no_end : bytes_eq word (45 ∷ 45 ∷ []) ≡ false
   pub long : long_of word ≡ None
-  pub fault : (rows : List Row) (pending : Option (Text × List Text)) → flag_word_fault rules false None word (holding rows pending) ≡ UnknownArgument ∷ []
+  pub fault : (rows : List Row) (pending : Option (Text × List Text))
+      → flag_word_fault rules false None word (holding rows pending) ≡ UnknownArgument ∷ []
 
 pub data Look (rules : List Rule) (word : Text) : Type 0 where
   plain_word_is : IsPlainWord rules word → Look rules word
@@ -51,7 +53,8 @@ pub data Look (rules : List Rule) (word : Text) : Type 0 where
   short_is : IsShort rules word → Look rules word
 
 -- one dash, and then no dash
-one_dash : (rules : List Rule) → ((c : ℕ) → arg_by_short rules c ≡ None) → (y : ℕ) (rest : Text) → (y == 45) ≡ false → (cs : List ℕ) → chars (y ∷ rest) ≡ cs → Look rules (45 ∷ y ∷ rest)
+one_dash : (rules : List Rule) → ((c : ℕ) → arg_by_short rules c ≡ None) → (y : ℕ) (rest : Text) → (y == 45) ≡ false
+    → (cs : List ℕ) → chars (y ∷ rest) ≡ cs → Look rules (45 ∷ y ∷ rest)
 unfolding flags_fault bundle_met
 one_dash rules shorts y rest other [] spelled = plain_word_is (record {
   plain = rw spelled refl;

@@ -129,9 +129,11 @@ settles rules held uses = guard (settle_fault rules false held) (after (settled 
 pub record Follows (form : Form) (rules : List Rule) (words : List Text) : Type 0 where
   pub free : (i : ℕ) (left : List Text) (rows : List Row) (pending : Option (Text × List Text)) → HasSeats rules i left
       → outcome form rules (standing idle false i (holding rows pending)) words ≡ settles rules (holding rows pending) (given form free left words)
-  pub wants : (i : ℕ) (left : List Text) (rows : List Row) (name : Text) → HasSeats rules i left → arg_by_id rules name ≡ Some (valued name)
+  pub wants : (i : ℕ) (left : List Text) (rows : List Row) (name : Text) → HasSeats rules i left
+      → arg_by_id rules name ≡ Some (valued name)
       → outcome form rules (standing (option name) false i (holding rows (Some (name, [])))) words ≡ after rows (given form (wants name) left words)
-  pub ended : (i : ℕ) (left : List Text) (rows : List Row) (pending : Option (Text × List Text)) (waiting : Waiting) → HasSeats rules i left
+  pub ended : (i : ℕ) (left : List Text) (rows : List Row) (pending : Option (Text × List Text)) (waiting : Waiting)
+      → HasSeats rules i left
       → outcome form rules (standing waiting true i (holding rows pending)) words ≡ settles rules (holding rows pending) (given form ended left words)
 
 follows-nil : (form : Form) (rules : List Rule) → Follows form rules []
@@ -145,7 +147,8 @@ follows-nil form rules = record {
 -- ---- one word
 
 -- a positional that takes one value first uses what is pending
-seat_turn : (test : Bool) (fault : Kinds) (a b : Held) (go : Held → Rows) → guard (if test && false then [] else fault) (go (if test && false then a else b)) ≡ guard fault (go b)
+seat_turn : (test : Bool) (fault : Kinds) (a b : Held) (go : Held → Rows)
+    → guard (if test && false then [] else fault) (go (if test && false then a else b)) ≡ guard fault (go b)
 seat_turn true fault a b go = refl
 seat_turn false fault a b go = refl
 
@@ -155,12 +158,14 @@ taken : (rows : List Row) (name value : Text) (uses : Option Uses)
 taken rows name value uses = guard-or_else (repeat_fault false name rows) [] _ ∙ after-with_use rows name value uses
 
 -- the pending value of a positional is used
-seat_settles : (rules : List Rule) (rows : List Row) (name word : Text) (i : ℕ) (uses : Option Uses) → arg_by_id rules name ≡ Some (seat name i)
+seat_settles : (rules : List Rule) (rows : List Row) (name word : Text) (i : ℕ) (uses : Option Uses)
+    → arg_by_id rules name ≡ Some (seat name i)
     → settles rules (holding rows (Some (name, word ∷ []))) uses ≡ after rows (with_use name word uses)
 seat_settles rules rows name word i uses found = rw found (taken rows name word uses)
 
 -- the pending value of an option is used
-value_settles : (rules : List Rule) (rows : List Row) (name word : Text) (uses : Option Uses) → arg_by_id rules name ≡ Some (valued name)
+value_settles : (rules : List Rule) (rows : List Row) (name word : Text) (uses : Option Uses)
+    → arg_by_id rules name ≡ Some (valued name)
     → settles rules (holding rows (Some (name, word ∷ []))) uses ≡ after rows (with_use name word uses)
 value_settles rules rows name word uses found = rw found (taken rows name word uses)
 
@@ -184,7 +189,8 @@ bytes_same : (text : Text) → bytes_eq text text ≡ true
 bytes_same text = (bytes_eq-Decides text text).1 refl
 
 -- an option that still wants its value fails when something else comes
-wants_fails : (rules : List Rule) (rows : List Row) (name : Text) (uses : Option Uses) → arg_by_id rules name ≡ Some (valued name)
+wants_fails : (rules : List Rule) (rows : List Row) (name : Text) (uses : Option Uses)
+    → arg_by_id rules name ≡ Some (valued name)
     → settles rules (holding rows (Some (name, []))) uses ≡ None
 wants_fails rules rows name uses found = rw found refl
 
@@ -198,7 +204,8 @@ wants-long rules rows name text None (Some known) (Some word) later rest found i
 wants-long rules rows name text None (Some known) None later rest found is = rw (is, found) refl
 wants-long rules rows name text None None attached later rest found is = rw is refl
 
-wants-cons : (form : Form) (rules : List Rule) (word : Text) (words : List Text) → Serves form rules → Follows form rules words
+wants-cons : (form : Form) (rules : List Rule) (word : Text) (words : List Text) → Serves form rules
+    → Follows form rules words
     → (i : ℕ) (left : List Text) (rows : List Row) (name : Text) → HasSeats rules i left → arg_by_id rules name ≡ Some (valued name)
     → outcome form rules (standing (option name) false i (holding rows (Some (name, [])))) (word ∷ words) ≡ after rows (given form (wants name) left (word ∷ words))
 unfolding walked given
@@ -258,7 +265,8 @@ free-seat form rules word words next i (name ∷ left) rows pending has =
     (λ h. outcome form rules (standing idle false (min (i + 1) usize_max) (pushed name word h)) words)
     ∙ ap (guard (settle_fault rules false held)) after_word)
 
-free-cons : (form : Form) (rules : List Rule) (word : Text) (words : List Text) → Serves form rules → Follows form rules words
+free-cons : (form : Form) (rules : List Rule) (word : Text) (words : List Text) → Serves form rules
+    → Follows form rules words
     → (i : ℕ) (left : List Text) (rows : List Row) (pending : Option (Text × List Text)) → HasSeats rules i left
     → outcome form rules (standing idle false i (holding rows pending)) (word ∷ words) ≡ settles rules (holding rows pending) (given form free left (word ∷ words))
 unfolding walked given

@@ -14,7 +14,8 @@ use Rattle.sweet_words.specs.Merges.{merging_or_joins}
 use Rattle.sweet_words.specs.declared.merging.Merging.{Merging}
 
 -- what `analyse` is given: the file of the program, the function that it starts with, the files of inputs and of costs,
--- the most turns, where states are merged, the most pivots of the path bound, and whether the report has its certificate
+-- the most turns, where states are merged, the most pivots of the path bound, and whether the report has its
+-- certificate
 pub record AnalyseWords : Type 0 where
   pub program : ProgramFile
   pub root : Text
@@ -25,8 +26,8 @@ pub record AnalyseWords : Type 0 where
   pub pivots : ℕ
   pub certified : Bool
 
--- what `check` is given: the files of the program and of the report, the function that the program starts with, and the files
--- of inputs and of costs
+-- what `check` is given: the files of the program and of the report, the function that the program starts with, and the
+-- files of inputs and of costs
 pub record CheckWords : Type 0 where
   pub program : ProgramFile
   pub report : Text
@@ -56,8 +57,8 @@ pub record RunWords : Type 0 where
   pub costs : Option Text
   pub turns : ℕ
 
--- what `cache` is given: the same as `analyse` but for pivots and certificate, and the cache: its sets, its ways, the bytes
--- of a line, and what a miss costs beyond a hit
+-- what `cache` is given: the same as `analyse` but for pivots and certificate, and the cache: its sets, its ways, the
+-- bytes of a line, and what a miss costs beyond a hit
 pub record CacheWords : Type 0 where
   pub program : ProgramFile
   pub root : Text
@@ -255,7 +256,8 @@ line_in value = number_given 4 4096 (value (codes "line"))
 abbrev pub penalty_in : (Text → Option Text) → Option ℕ
 penalty_in value = number_given 0 4294967295 (value (codes "penalty"))
 
--- `cache FILE --sets N --ways N --line N --penalty N --root NAME --inputs FILE --costs FILE --turns N --merge none|exits|joins`
+-- `cache FILE --sets N --ways N --line N --penalty N --root NAME --inputs FILE --costs FILE --turns N --merge
+-- none|exits|joins`
 abbrev pub cache_words : (Text → Option Text) → ProgramFile → ℕ → Merging → ℕ → ℕ → ℕ → ℕ → CacheWords
 cache_words value program turns merging sets ways line penalty = record {
   program = program;

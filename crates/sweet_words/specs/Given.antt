@@ -53,7 +53,8 @@ flag_used name (Some value) left next = None
 flag_used name None left next = with_use name (codes "true") (next free left)
 
 -- what an option of the command does, found among those with a value and among the flags
-abbrev pub option_used : Option Text → Option Text → Option Text → List Text → (Due → List Text → Option Uses) → Option Uses
+abbrev pub option_used : Option Text → Option Text → Option Text → List Text → (Due → List Text → Option Uses)
+    → Option Uses
 option_used (Some name) flag value left next = value_used name value left next
 option_used None (Some name) value left next = flag_used name value left next
 option_used None None value left next = None

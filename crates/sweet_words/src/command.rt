@@ -3,7 +3,8 @@ ghost use Rattle.std.specs.Prelude.{◌≡◌, ◌≤◌, option_map, IfSome};
 ghost use Rattle.clap.specs.Words.{first_value, found_of};
 ghost use Rattle.sweet_words.specs.Commands.{IsWithinRanges, analyse_of, cache_of, check_of, command_named, file_in};
 ghost use Rattle.sweet_words.specs.Commands.{generate_of, is_set, lower_of, migrate_of, replay_of};
-ghost use Rattle.sweet_words.specs.Commands.{merging_in, pivots_in, print_of, root_in, run_of, tasks_of, turns_in, worst_of};
+ghost use Rattle.sweet_words.specs.Commands.{merging_in, pivots_in, print_of, root_in, run_of, tasks_of, turns_in};
+ghost use Rattle.sweet_words.specs.Commands.{worst_of};
 ghost use Rattle.sweet_words.specs.Meant.{command_meant, file_meant};
 
 use crate::files::{ProgramFile, c_file, program_file};

@@ -40,7 +40,8 @@ fn with_arguments<'a>(
     place: Place,
     names: &[&'static str],
 ) -> Result<Command<'a>, AllocError>
-    ensures app { IfOk result (λ c. app_of c ≡ with_rules (app_of command.entry) (map (λ name. rule_at place name.now) names.now)) }
+    ensures app { IfOk result
+        (λ c. app_of c ≡ with_rules (app_of command.entry) (map (λ name. rule_at place name.now) names.now)) }
     ensures local { IfOk result (λ c. (fields_of c).has_globals ≡ (fields_of command.entry).has_globals) }
 {
     for name in names {

@@ -13,13 +13,15 @@ use Rattle.transfer_rules.specs.Machines.{CoversHistory, AreAlike, memory_order}
 
 -- ---- memories as a lattice
 
-join_left : (program : NumberedProgram) (a b : Mem abstract_sets) → AreAlike a b → (history : List RunEvent) → CoversHistory program a history → CoversHistory program (both abstract_sets a b) history
+join_left : (program : NumberedProgram) (a b : Mem abstract_sets) → AreAlike a b → (history : List RunEvent)
+    → CoversHistory program a history → CoversHistory program (both abstract_sets a b) history
 join_left program a b alike history h = record {
   sound = h.sound;
   covers = (join_covers abstract_sets abstract_is_sets (frames_of program) a b history h.sound alike.first alike.second alike.runs).0 h.covers;
 }
 
-join_right : (program : NumberedProgram) (a b : Mem abstract_sets) → AreAlike a b → (history : List RunEvent) → CoversHistory program b history → CoversHistory program (both abstract_sets a b) history
+join_right : (program : NumberedProgram) (a b : Mem abstract_sets) → AreAlike a b → (history : List RunEvent)
+    → CoversHistory program b history → CoversHistory program (both abstract_sets a b) history
 join_right program a b alike history h = record {
   sound = h.sound;
   covers = (join_covers abstract_sets abstract_is_sets (frames_of program) a b history h.sound alike.first alike.second alike.runs).1 h.covers;

@@ -31,7 +31,8 @@ over value made Own m = record {
 }
 
 -- what the order of such values keeps
-pub record IsSeen {V T C : Type 0} (value : V → T) (made : T → V) (Own : V → Type 0) (m : Machine T C) (base : Order T) (order : Order V) : Type 0 where
+pub record IsSeen {V T C : Type 0} (value : V → T) (made : T → V) (Own : V → Type 0) (m : Machine T C) (base : Order T)
+    (order : Order V) : Type 0 where
   pub same : (t : T) → value (made t) ≡ t
   pub own : (t : T) → Own (made t)
   pub alike : (a b : V) → Own a → Own b → base.alike (value a) (value b) → order.alike a b
@@ -56,7 +57,8 @@ module _ {V T C : Type 0} (value : V → T) (made : T → V) (Own : V → Type 0
       }
 
   -- it keeps the laws of a stepper
-  pub over_is_machine : (base : Order T) (order : Order V) → IsMachine T C base m → IsSeen value made Own m base order → IsMachine V C order (over value made Own m)
+  pub over_is_machine : (base : Order T) (order : Order V) → IsMachine T C base m → IsSeen value made Own m base order
+      → IsMachine V C order (over value made Own m)
   over_is_machine base order laws seen = record {
     first_fits = (seen.own m.first, subst (m.fits 0) (sym (seen.same m.first)) laws.first_fits);
     next_fits = λ n k v u fits among other.

@@ -29,11 +29,13 @@ address_faults_told rows runs at size fault is = (address_from rows runs at size
 
 -- ---- expressions
 
-tells_of : (r : Remains AbstractValue) (result : Result Value RunFault) → Answers ⊥ (ValueTold ⊥) r result → Tells r result
+tells_of : (r : Remains AbstractValue) (result : Result Value RunFault) → Answers ⊥ (ValueTold ⊥) r result
+    → Tells r result
 tells_of r (Ok value) told = subst (λ (o : Option AbstractValue). IsSomeAnd o (λ v. Covers v value)) (sym told.is) told.holds.covers
 tells_of r (Err fault) told = told.told
 
-only_of : (r : Remains AbstractValue) (result : Result Value RunFault) → Answers (Unit {0}) (ValueTold (Unit {0})) r result → OnlyTells r result
+only_of : (r : Remains AbstractValue) (result : Result Value RunFault)
+    → Answers (Unit {0}) (ValueTold (Unit {0})) r result → OnlyTells r result
 only_of r (Ok value) told = (
   subst (λ (o : Option AbstractValue). IsSomeAnd o (λ v. OnlyCovers abstract_sets v value)) (sym told.is) (told.holds.only tt),
   none_is_empty r.faults (told.none tt),
@@ -57,7 +59,8 @@ expressions_tell_only table rows m history k size e has sound sized sharp =
 
 -- ---- the machine
 
-kept_of : (program : NumberedProgram) (graph : GraphParts) (rows : List InputRow) → StepPromises → IsKept program → IsGraph program graph → KeepInputs program rows → KeepsMachine program graph rows
+kept_of : (program : NumberedProgram) (graph : GraphParts) (rows : List InputRow) → StepPromises → IsKept program
+    → IsGraph program graph → KeepInputs program rows → KeepsMachine program graph rows
 kept_of program graph rows promises keeps is inputs = record { keeps = keeps; is = is; inputs = inputs; promises = promises }
 
 pub transfer_is_machine : StepPromises → TransferIsMachine

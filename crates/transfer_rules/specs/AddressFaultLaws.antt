@@ -43,7 +43,8 @@ distance_is z low = grind (arith, ints, low)
 pub greatest_above : (x : Stride) (t : ℕ) → IsStride x → CoversWord x t → t ≤ greatest_offset x
 greatest_above x t is covers = distance_above t (unsigned_greatest x) (above_all (pos 0) (pos t) (unsigned_of x) (unsigned_some x t is covers))
 
-attained : (so_far : ℤ) (o : Option Progression) → IfProgression o → (greater_end so_far o ≡ so_far) ⊎ HasSome o (greater_end so_far o)
+attained : (so_far : ℤ) (o : Option Progression) → IfProgression o
+    → (greater_end so_far o ≡ so_far) ⊎ HasSome o (greater_end so_far o)
 attained so_far None is = inl refl
 attained so_far (Some p) is = by_test (int_le p.hi so_far)
     (λ e. inl (omega (arith, ints, clamps, e)))
@@ -53,7 +54,8 @@ piece_is : (least most : ℤ) (o : Option Progression) → IfPiece least most o 
 piece_is least most None is = tt
 piece_is least most (Some p) is = is.progression
 
-greatest_had : (least most n : ℤ) (pieces : Pieces) → ArePieces least most pieces → SomeHas pieces n → least ≤ℤ n → SomeHas pieces (greatest_of least pieces)
+greatest_had : (least most n : ℤ) (pieces : Pieces) → ArePieces least most pieces → SomeHas pieces n → least ≤ℤ n
+    → SomeHas pieces (greatest_of least pieces)
 greatest_had least most n pieces are some low =
     let one = greater_end least pieces.first in
     let two = greater_end one pieces.second in
@@ -72,7 +74,8 @@ greatest_had least most n pieces are some low =
       ]
     ]
 
-near : (w t : ℕ) (g n : ℤ) → pos t ≡ g → (n ≡ g -ℤ full w) ⊎ ((n ≡ g) ⊎ (n ≡ g +ℤ full w)) → Divides (full w) (n -ℤ pos t)
+near : (w t : ℕ) (g n : ℤ) → pos t ≡ g → (n ≡ g -ℤ full w) ⊎ ((n ≡ g) ⊎ (n ≡ g +ℤ full w))
+    → Divides (full w) (n -ℤ pos t)
 near w t g n at (inl e) = divides_same (full w) (pos 0 -ℤ full w) (n -ℤ pos t) (omega (arith, ints, at, e)) (divides_difference (full w) (pos 0) (full w) (divides_zero (full w)) (divides_itself (full w)))
 near w t g n at (inr (inl e)) = divides_same (full w) (pos 0) (n -ℤ pos t) (omega (arith, ints, at, e)) (divides_zero (full w))
 near w t g n at (inr (inr e)) = divides_same (full w) (full w) (n -ℤ pos t) (omega (arith, ints, at, e)) (divides_itself (full w))
@@ -97,17 +100,20 @@ greatest_covers x is =
 
 -- ---- a fault of a covered address is told
 
-some_words : (words : Option Stride) (size bits : ℕ) → IsSomeAnd words (λ w. (w.size ≡ size) × CoversWord w bits) → has_fault (word_fault words) Kind ≡ true
+some_words : (words : Option Stride) (size bits : ℕ) → IsSomeAnd words (λ w. (w.size ≡ size) × CoversWord w bits)
+    → has_fault (word_fault words) Kind ≡ true
 some_words None size bits h = elim h [ ]
 some_words (Some words) size bits h = refl
 
-same_error : {A : Type 0} (told fault : RunFault) → (let r : Result A RunFault = Err told in r) ≡ Err fault → told ≡ fault
+same_error : {A : Type 0} (told fault : RunFault) → (let r : Result A RunFault = Err told in r) ≡ Err fault
+    → told ≡ fault
 same_error told fault e = cc
 
 fits_lower : (bits low high size : ℕ) → low ≤ high → fits_in bits high size ≡ true → fits_in bits low size ≡ true
 fits_lower bits low high size order fits = let room = leb-true (high * 8 + size) bits fits in le-leb (low * 8 + size) bits (omega (arith, room, order))
 
-place_told : (found : Option FrameShape) (runs : ℕ → Bool) (offsets : Stride) (frame offset size : ℕ) (fault : RunFault) → IsStride offsets → CoversWord offsets offset
+place_told : (found : Option FrameShape) (runs : ℕ → Bool) (offsets : Stride) (frame offset size : ℕ) (fault : RunFault)
+    → IsStride offsets → CoversWord offsets offset
     → tested_in found runs frame offset size ≡ Err fault → has_fault (place_fault found runs offsets size) fault ≡ true
 place_told None runs offsets frame offset size fault is covers test = subst (λ (k : RunFault). has_fault (with_fault no_faults Dead) k ≡ true) (same_error Dead fault test) refl
 place_told (Some row) runs offsets frame offset size fault is covers test = by_test (is_on runs row.owner)
@@ -136,7 +142,8 @@ places_told rows runs (place ∷ places) frame offset size fault are covers test
     (λ e. in_second (place_fault (slice_get rows place.0) runs place.1 size) (place_faults rows runs places size) fault
     (places_told rows runs places frame offset size fault are.1 (rw e at covers) test))
 
-pub address_told : (rows : List FrameShape) (runs : ℕ → Bool) (at : AbstractValue) (size : ℕ) (fault : RunFault) → IsValue 32 at → IsAddressFault rows runs at size fault
+pub address_told : (rows : List FrameShape) (runs : ℕ → Bool) (at : AbstractValue) (size : ℕ) (fault : RunFault)
+    → IsValue 32 at → IsAddressFault rows runs at size fault
     → has_fault (address_faults rows runs at size) fault ≡ true
 address_told rows runs at size fault is (Int own word, covers, test) =
     subst (λ (k : RunFault). has_fault (address_faults rows runs at size) k ≡ true) (same_error Kind fault test)
@@ -147,13 +154,15 @@ address_told rows runs at size fault is (Ptr frame offset, covers, test) =
 -- ---- and each fault that is told is one of a covered address
 
 -- a covered address with the fault
-pub record Faulty (rows : List FrameShape) (runs : ℕ → Bool) (places : List (ℕ × Stride)) (size : ℕ) (fault : RunFault) : Type 0 where
+pub record Faulty (rows : List FrameShape) (runs : ℕ → Bool) (places : List (ℕ × Stride)) (size : ℕ)
+    (fault : RunFault) : Type 0 where
   pub frame : ℕ
   pub offset : ℕ
   pub covers : IsSomeAnd (offsets_in places frame) (λ offsets. CoversWord offsets offset)
   pub test : tested rows runs (Ptr frame offset) size ≡ Err fault
 
-place_from : (found : Option FrameShape) (runs : ℕ → Bool) (offsets : Stride) (frame size : ℕ) (fault : RunFault) → IsStride offsets
+place_from : (found : Option FrameShape) (runs : ℕ → Bool) (offsets : Stride) (frame size : ℕ) (fault : RunFault)
+    → IsStride offsets
     → has_fault (place_fault found runs offsets size) fault ≡ true → (offset : ℕ) × CoversWord offsets offset × (tested_in found runs frame offset size ≡ Err fault)
 place_from None runs offsets frame size fault is told =
     let w = some_word offsets is in (w.0, w.1, ap (λ (k : RunFault). Err k) (sym (one_alone Dead fault told)))
@@ -168,7 +177,8 @@ place_from (Some row) runs offsets frame size fault is told = by_test (is_on run
     let w = some_word offsets is in (w.0, w.1, rw off (ap (λ (k : RunFault). Err k) (sym (one_alone Dead fault dead)))))
 
 -- a frame below all is not pointed to
-absent : (least frame : ℕ) (places : List (ℕ × Stride)) → Ascends least places → frame ≤ least → offsets_in places frame ≡ None
+absent : (least frame : ℕ) (places : List (ℕ × Stride)) → Ascends least places → frame ≤ least
+    → offsets_in places frame ≡ None
 absent least frame [] ascends low = refl
 absent least frame (place ∷ places) ascends low = by_test (place.0 == frame)
     (λ e. absurd (let same : place.0 ≡ frame = eqb-true place.0 frame e in omega (arith, same, ascends.0, low)))
@@ -178,7 +188,8 @@ rest_ascends : (least : ℕ) (places : List (ℕ × Stride)) → Ascends least p
 rest_ascends least [] ascends = tt
 rest_ascends least (place ∷ places) ascends = ascends.1
 
-places_from : (rows : List FrameShape) (runs : ℕ → Bool) (places : List (ℕ × Stride)) (size : ℕ) (fault : RunFault) → ArePlaces places → AreAscending places
+places_from : (rows : List FrameShape) (runs : ℕ → Bool) (places : List (ℕ × Stride)) (size : ℕ) (fault : RunFault)
+    → ArePlaces places → AreAscending places
     → has_fault (place_faults rows runs places size) fault ≡ true → Faulty rows runs places size fault
 places_from rows runs [] size fault are ascending told = absurd (no_fault fault told)
 places_from rows runs (place ∷ places) size fault are ascending told =
@@ -196,12 +207,14 @@ places_from rows runs (place ∷ places) size fault are ascending told =
           (λ e. record { frame = rest.frame; offset = rest.offset; covers = rw e rest.covers; test = rest.test })
     ]
 
-word_from : (words : Option Stride) (fault : RunFault) → IfSome words IsStride → has_fault (word_fault words) fault ≡ true
+word_from : (words : Option Stride) (fault : RunFault) → IfSome words IsStride
+    → has_fault (word_fault words) fault ≡ true
     → (Kind ≡ fault) × ((size : ℕ) × (bits : ℕ) × IsSomeAnd words (λ w. (w.size ≡ size) × CoversWord w bits))
 word_from None fault is told = absurd (no_fault fault told)
 word_from (Some words) fault is told = let w = some_word words is in (sym (one_alone Kind fault told), (words.size, w.0, (refl, w.1)))
 
-pub address_from : (rows : List FrameShape) (runs : ℕ → Bool) (at : AbstractValue) (size : ℕ) (fault : RunFault) → IsValue 32 at
+pub address_from : (rows : List FrameShape) (runs : ℕ → Bool) (at : AbstractValue) (size : ℕ) (fault : RunFault)
+    → IsValue 32 at
     → has_fault (address_faults rows runs at size) fault ≡ true → IsAddressFault rows runs at size fault
 address_from rows runs at size fault is told =
     elim (in_either (word_fault at.words) (place_faults rows runs at.places size) fault told) [

@@ -25,16 +25,19 @@ use Rattle.transfer_rules.specs.AddressFaultLaws.{address_from}
 use Rattle.transfer_rules.specs.StandingLaws.{pointer_is, pointer_told}
 use Rattle.transfer_rules.specs.CellStores.{IsCellAt}
 
-tested_is : (rows : List FrameShape) (runs : ℕ → Bool) (frame offset size : ℕ) → IsCellAt rows runs frame offset size → tested rows runs (Ptr frame offset) size ≡ Ok (frame, offset)
+tested_is : (rows : List FrameShape) (runs : ℕ → Bool) (frame offset size : ℕ) → IsCellAt rows runs frame offset size
+    → tested rows runs (Ptr frame offset) size ≡ Ok (frame, offset)
 tested_is rows runs frame offset size cell = rw (cell.found, cell.active, cell.fits) refl
 
 ok_or_err : (cell : ℕ × ℕ) (fault : RunFault) → (let r : Result (ℕ × ℕ) RunFault = Ok cell in r) ≡ Err fault → ⊥
 ok_or_err cell fault e = cc
 
-only_pointer : (frame offset : ℕ) → offset < 2 ^ 32 → OnlyCovers abstract_sets (pointer_value frame offset) (Ptr frame offset)
+only_pointer : (frame offset : ℕ) → offset < 2 ^ 32
+    → OnlyCovers abstract_sets (pointer_value frame offset) (Ptr frame offset)
 only_pointer frame offset small = (pointer_told (Unit {0}) frame offset small).only tt
 
-no_faults_there : (rows : List FrameShape) (runs : ℕ → Bool) (frame offset size : ℕ) → offset < 2 ^ 32 → IsCellAt rows runs frame offset size → (fault : RunFault)
+no_faults_there : (rows : List FrameShape) (runs : ℕ → Bool) (frame offset size : ℕ) → offset < 2 ^ 32
+    → IsCellAt rows runs frame offset size → (fault : RunFault)
     → has_fault (address_faults rows runs (pointer_value frame offset) size) fault ≡ true → ⊥
 no_faults_there rows runs frame offset size small cell fault told =
     let f = address_from rows runs (pointer_value frame offset) size fault (pointer_is frame offset small) told in
@@ -42,7 +45,8 @@ no_faults_there rows runs frame offset size small cell fault told =
     ok_or_err (frame, offset) fault (sym (tested_is rows runs frame offset size cell) ∙ ap (λ (p : Value). tested rows runs p size) (sym same) ∙ f.2)
 
 -- the store through the pointer fills the cell
-pub stored_in_cell : (rows : List FrameShape) (m : Mem abstract_sets) (frame offset size : ℕ) (v : AbstractValue) → offset < 2 ^ 32 → IsCellSize size → IsCellAt rows m.runs frame offset size
+pub stored_in_cell : (rows : List FrameShape) (m : Mem abstract_sets) (frame offset size : ℕ) (v : AbstractValue)
+    → offset < 2 ^ 32 → IsCellSize size → IsCellAt rows m.runs frame offset size
     → stored_by rows m (pointer_value frame offset) v size ≡ all_left (filled m frame offset size v)
 stored_in_cell rows m frame offset size v small is cell =
     let cells : cells_of rows m.runs (pointer_value frame offset).places size ≡ (frame, offset) ∷ [] =

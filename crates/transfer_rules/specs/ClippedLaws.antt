@@ -38,7 +38,8 @@ frame_within count f = record {
   sizes = λ offset size other. by_test (nat_lt offset count) (λ low. rw (low, other) refl) (λ past. rw past refl);
 }
 
-pub clip_within : (count : ℕ) (rows : List FrameShape) (m : Mem abstract_sets) → IsWithin count rows (clipped count rows m)
+pub clip_within : (count : ℕ) (rows : List FrameShape) (m : Mem abstract_sets)
+    → IsWithin count rows (clipped count rows m)
 clip_within count rows m = record {
   runs = λ function past. rw (not_less function count past) refl;
   frames = λ frame. frame_within (bytes_at (slice_get rows frame)) (m.frames frame);
@@ -46,13 +47,15 @@ clip_within count rows m = record {
 
 -- ---- what is made of it
 
-same_off : {A : Type 0} (g h : ℕ → A) (from n last : ℕ) → from + n ≤ last → ((i : ℕ) → i < last → g i ≡ h i) → map g (offsets from n) ≡ map h (offsets from n)
+same_off : {A : Type 0} (g h : ℕ → A) (from n last : ℕ) → from + n ≤ last → ((i : ℕ) → i < last → g i ≡ h i)
+    → map g (offsets from n) ≡ map h (offsets from n)
 same_off g h from zero last within same = refl
 same_off g h from (suc n) last within same =
     ap (λ y. y ∷ map g (offsets (suc from) n)) (same from (omega (arith, within)))
     ∙ ap (λ ys. h from ∷ ys) (same_off g h (suc from) n last (omega (arith, within)) same)
 
-slot_same : (count : ℕ) (f : FrameMem abstract_sets) (place : ℕ) → place < count → slot_at (clip_frame count f) place ≡ slot_at f place
+slot_same : (count : ℕ) (f : FrameMem abstract_sets) (place : ℕ) → place < count
+    → slot_at (clip_frame count f) place ≡ slot_at f place
 slot_same count f place low = rw (lt-ltb place count low) refl
 
 slots_same : (count : ℕ) (f : FrameMem abstract_sets) → slots_of count (clip_frame count f) ≡ slots_of count f
@@ -71,7 +74,8 @@ frames_same f g from (row ∷ rows) same =
     subst (λ (n : ℕ). slots_of (bytes_in other) (g n) ≡ slots_of (bytes_in other) (f n)) later (same (suc frame) other found)) in
     ap (λ x. x ∷ frames_from g (suc from) rows) head ∙ ap (λ xs. slots_of (bytes_in row) (f from) ∷ xs) tail
 
-pub made_clipped : (checked : CheckedParts) (m : Mem abstract_sets) → made checked (clipped (functions_of checked) (rows_of checked) m) ≡ made checked m
+pub made_clipped : (checked : CheckedParts) (m : Mem abstract_sets)
+    → made checked (clipped (functions_of checked) (rows_of checked) m) ≡ made checked m
 made_clipped checked m = λ i. record { checked = checked; running = running i; frames = frames i }
   where
     running : map (clipped (functions_of checked) (rows_of checked) m).runs (offsets 0 (functions_of checked)) ≡ map m.runs (offsets 0 (functions_of checked))
@@ -87,7 +91,8 @@ made_clipped checked m = λ i. record { checked = checked; running = running i; 
 
 -- ---- sizes
 
-frame_sized : (count : ℕ) (f : FrameMem abstract_sets) → FrameSized abstract_sets f → FrameSized abstract_sets (clip_frame count f)
+frame_sized : (count : ℕ) (f : FrameMem abstract_sets) → FrameSized abstract_sets f
+    → FrameSized abstract_sets (clip_frame count f)
 frame_sized count f sized = record {
   bytes = λ byte. by_test (nat_lt byte count) (λ low. rw low (sized.bytes byte)) (λ past. rw past tt);
   kept = λ offset size cell at. by_test (nat_lt offset count && is_cell_size size)
@@ -95,7 +100,8 @@ frame_sized count f sized = record {
       (λ none. let bad : None ≡ Some cell = rw none at at in cc);
 }
 
-pub clip_sized : (count : ℕ) (rows : List FrameShape) (m : Mem abstract_sets) → MemSized abstract_sets m → MemSized abstract_sets (clipped count rows m)
+pub clip_sized : (count : ℕ) (rows : List FrameShape) (m : Mem abstract_sets) → MemSized abstract_sets m
+    → MemSized abstract_sets (clipped count rows m)
 clip_sized count rows m sized frame = frame_sized (bytes_at (slice_get rows frame)) (m.frames frame) (sized frame)
 
 -- ---- what it covers
@@ -110,14 +116,17 @@ cell_low bits offset size is fits =
     let room : offset * 8 + size ≤ bits = leb-true (offset * 8 + size) bits fits in
     let whole : size % 8 ≡ 0 = is.1 in omega (arith, room, whole)
 
-here : (count : ℕ) (f : FrameMem abstract_sets) (offset size : ℕ) → IsCellSize size → offset < count → (clip_frame count f).cells offset size ≡ f.cells offset size
+here : (count : ℕ) (f : FrameMem abstract_sets) (offset size : ℕ) → IsCellSize size → offset < count
+    → (clip_frame count f).cells offset size ≡ f.cells offset size
 here count f offset size is low = rw (lt-ltb offset count low, cell_size size is) refl
 
-taken_same : (count : ℕ) (f : FrameMem abstract_sets) (offset size : ℕ) → offset + size / 8 ≤ count → taken abstract_sets (clip_frame count f) offset size ≡ taken abstract_sets f offset size
+taken_same : (count : ℕ) (f : FrameMem abstract_sets) (offset size : ℕ) → offset + size / 8 ≤ count
+    → taken abstract_sets (clip_frame count f) offset size ≡ taken abstract_sets f offset size
 taken_same count f offset size within =
     same_off (clip_frame count f).bytes f.bytes offset (size / 8) count within (λ byte low. rw (lt-ltb byte count low) refl)
 
-not_whole : (from : ℕ → Option Byte) (offset size n : ℕ) → 0 < n → from offset ≡ None → list_all (is_from offset size) (map from (offsets offset n)) ≡ false
+not_whole : (from : ℕ → Option Byte) (offset size n : ℕ) → 0 < n → from offset ≡ None
+    → list_all (is_from offset size) (map from (offsets offset n)) ≡ false
 not_whole from offset size zero some none = absurd (omega (arith, some))
 not_whole from offset size (suc n) some none = rw none refl
 
@@ -125,7 +134,8 @@ not_whole from offset size (suc n) some none = rw none refl
 abbrev IsOutside : ℕ → (ℕ → Option Byte) → Type 0
 IsOutside bits from = (byte : ℕ) → bits / 8 ≤ byte → from byte ≡ None
 
-frame_covers : (bits : ℕ) (f : FrameMem abstract_sets) (from : ℕ → Option Byte) → IsOutside bits from → FrameCovers abstract_sets bits f from → FrameCovers abstract_sets bits (clip_frame (bits / 8) f) from
+frame_covers : (bits : ℕ) (f : FrameMem abstract_sets) (from : ℕ → Option Byte) → IsOutside bits from
+    → FrameCovers abstract_sets bits f from → FrameCovers abstract_sets bits (clip_frame (bits / 8) f) from
 frame_covers bits f from none c = record {
   bytes = λ byte. by_test (nat_lt byte (bits / 8))
       (λ low. rw low (c.bytes byte))
@@ -140,7 +150,8 @@ frame_covers bits f from none c = record {
       (λ past. not_whole from offset size (size / 8) is.0 (none offset (ltb-false offset (bits / 8) past)));
 }
 
-frame_sharp : (bits : ℕ) (f : FrameMem abstract_sets) (from : ℕ → Option Byte) → IsOutside bits from → FrameSharp abstract_sets bits f from → FrameSharp abstract_sets bits (clip_frame (bits / 8) f) from
+frame_sharp : (bits : ℕ) (f : FrameMem abstract_sets) (from : ℕ → Option Byte) → IsOutside bits from
+    → FrameSharp abstract_sets bits f from → FrameSharp abstract_sets bits (clip_frame (bits / 8) f) from
 frame_sharp bits f from none s = record {
   covers = frame_covers bits f from none s.covers;
   bytes = λ byte. by_test (nat_lt byte (bits / 8))
@@ -154,7 +165,8 @@ frame_sharp bits f from none s = record {
 }
 
 -- the same functions run, where none from the number on does
-pub clip_runs : (count : ℕ) (rows : List FrameShape) (m : Mem abstract_sets) → ((function : ℕ) → m.runs function ≡ true → function < count) → (clipped count rows m).runs ≡ m.runs
+pub clip_runs : (count : ℕ) (rows : List FrameShape) (m : Mem abstract_sets)
+    → ((function : ℕ) → m.runs function ≡ true → function < count) → (clipped count rows m).runs ≡ m.runs
 clip_runs count rows m low = λ i function. same function i
   where
     same : (function : ℕ) → (clipped count rows m).runs function ≡ m.runs function
@@ -165,7 +177,8 @@ clip_runs count rows m low = λ i function. same function i
         (λ off. rw (e, off) refl))
 
 module _ (count : ℕ) (rows : List FrameShape) (m : Mem abstract_sets) (history : List RunEvent) (low : (function : ℕ) → m.runs function ≡ true → function < count) (inside : IsInside rows history) where
-  past_end : (frame : ℕ) (row : FrameShape) → slice_get rows frame ≡ Some row → IsOutside row.bits (origin row.owner frame history)
+  past_end : (frame : ℕ) (row : FrameShape) → slice_get rows frame ≡ Some row
+      → IsOutside row.bits (origin row.owner frame history)
   past_end frame row found byte past = outside rows row frame byte history found past inside
 
   pub clip_covers : MemCovers abstract_sets rows m history → MemCovers abstract_sets rows (clipped count rows m) history

@@ -72,7 +72,8 @@ not_true false e = refl
 -- ---- relations
 
 -- where a relation does not hold, its opposite does
-pub opposite_holds : (rel : Rel) (s x y : ℕ) → value (operator_of rel) (s ∷ []) (x ∷ y ∷ []) ≡ 0 → Related (opposite rel) s x y
+pub opposite_holds : (rel : Rel) (s x y : ℕ) → value (operator_of rel) (s ∷ []) (x ∷ y ∷ []) ≡ 0
+    → Related (opposite rel) s x y
 opposite_holds Eq s x y e = said_true (not (x == y)) (opposite_test (x == y) (not_said (x == y) e))
 opposite_holds Neq s x y e = said_true (x == y) (doubly (x == y) (not_said (not (x == y)) e))
 opposite_holds ULt s x y e = said_true (nat_le y x) (not_less x y (not_said (nat_lt x y) e))
@@ -104,7 +105,8 @@ swapped_holds SGt s x y e = e
 swapped_holds SGe s x y e = e
 
 -- a comparison gives a bit
-pub gives_bit : (rel : Rel) (s x y : ℕ) → (value (operator_of rel) (s ∷ []) (x ∷ y ∷ []) ≡ 0) ⊎ (value (operator_of rel) (s ∷ []) (x ∷ y ∷ []) ≡ 1)
+pub gives_bit : (rel : Rel) (s x y : ℕ)
+    → (value (operator_of rel) (s ∷ []) (x ∷ y ∷ []) ≡ 0) ⊎ (value (operator_of rel) (s ∷ []) (x ∷ y ∷ []) ≡ 1)
 gives_bit Eq s x y = said_bit (x == y)
 gives_bit Neq s x y = said_bit (not (x == y))
 gives_bit ULt s x y = said_bit (nat_lt x y)
@@ -117,7 +119,8 @@ gives_bit SGt s x y = said_bit (int_lt (signed s y) (signed s x))
 gives_bit SGe s x y = said_bit (int_le (signed s y) (signed s x))
 
 -- what holds where it gives this bit
-pub rel_holds : (rel : Rel) (s x y w : ℕ) → value (operator_of rel) (s ∷ []) (x ∷ y ∷ []) ≡ w → Related (rel_at rel w) s x y
+pub rel_holds : (rel : Rel) (s x y w : ℕ) → value (operator_of rel) (s ∷ []) (x ∷ y ∷ []) ≡ w
+    → Related (rel_at rel w) s x y
 rel_holds rel s x y w e = by_test (w == 0)
     (λ none. rw none (opposite_holds rel s x y (e ∙ eqb-true w 0 none)))
     (λ some. rw some (elim (gives_bit rel s x y) [
@@ -141,7 +144,8 @@ relation_is ops.SGt rel e = ap operator_of (same_Some SGt rel e)
 relation_is ops.SGe rel e = ap operator_of (same_Some SGe rel e)
 relation_is _ rel e = absurd (none-some rel e)
 
-pub compared_sizes : (rel : Rel) (sizes : List ℕ) → operand_sizes (operator_of rel) sizes ≡ slice_index sizes 0 ∷ slice_index sizes 0 ∷ []
+pub compared_sizes : (rel : Rel) (sizes : List ℕ)
+    → operand_sizes (operator_of rel) sizes ≡ slice_index sizes 0 ∷ slice_index sizes 0 ∷ []
 compared_sizes Eq sizes = refl
 compared_sizes Neq sizes = refl
 compared_sizes ULt sizes = refl
@@ -157,7 +161,8 @@ compared_sizes SGe sizes = refl
 abbrev compared_word : Rel → List ℕ → ℕ → ℕ → ℕ
 compared_word rel sizes x y = value (operator_of rel) (slice_index sizes 0 ∷ []) (x ∷ y ∷ [])
 
-pub compared_outcome : (rel : Rel) (sizes : List ℕ) (s t x y : ℕ) → outcome (operator_of rel) sizes (Int s x ∷ Int t y ∷ []) ≡ Ok (Int 1 (compared_word rel sizes x y))
+pub compared_outcome : (rel : Rel) (sizes : List ℕ) (s t x y : ℕ)
+    → outcome (operator_of rel) sizes (Int s x ∷ Int t y ∷ []) ≡ Ok (Int 1 (compared_word rel sizes x y))
 compared_outcome Eq sizes s t x y = refl
 compared_outcome Neq sizes s t x y = refl
 compared_outcome ULt sizes s t x y = refl

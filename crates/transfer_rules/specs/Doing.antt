@@ -21,13 +21,15 @@ where_possible [] a = None
 where_possible (cell ∷ cells) a = Some a
 
 -- the memory after a store of the value through the address
-abbrev pub stored_by : List FrameShape → Mem abstract_sets → AbstractValue → AbstractValue → ℕ → Remains (Mem abstract_sets)
+abbrev pub stored_by : List FrameShape → Mem abstract_sets → AbstractValue → AbstractValue → ℕ
+    → Remains (Mem abstract_sets)
 stored_by rows m at v size = record {
   left = where_possible (cells_of rows m.runs at.places size) (stored_at rows m at size v);
   faults = address_faults rows m.runs at size;
 }
 
-abbrev pub stored_through : List FrameShape → Mem abstract_sets → AbstractValue → AbstractValue → Remains (Mem abstract_sets)
+abbrev pub stored_through : List FrameShape → Mem abstract_sets → AbstractValue → AbstractValue
+    → Remains (Mem abstract_sets)
 stored_through rows m at v = stored_by rows m at v (width_of v)
 
 -- the memory after the statement: of a store the address is evaluated first, then the value

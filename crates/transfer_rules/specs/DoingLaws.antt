@@ -46,7 +46,8 @@ use Rattle.transfer_rules.specs.EvaluatingLaws.{cell_size, value_sized, value_to
 pub width_is : (size : ℕ) (v : AbstractValue) → IsValue size v → width_of v ≡ size
 width_is size v is = go v.words v.places is.sized.words is.sized.places is.is.some
   where
-    go : (words : Option Stride) (places : List (ℕ × Stride)) → IfSome words (λ w. w.size ≡ size) → IsPointerSize places size
+    go : (words : Option Stride) (places : List (ℕ × Stride)) → IfSome words (λ w. w.size ≡ size)
+        → IsPointerSize places size
         → words_first words ++ map place_of places ≢ [] → words_width words ≡ size
     go None [] of_words of_places some = absurd (some refl)
     go None (place ∷ places) of_words of_places some = sym of_places
@@ -73,11 +74,13 @@ unchanged m sized = record { sized = sized; runs = refl }
 pub kept_on : (a b c : Mem abstract_sets) → Kept a b → Kept b c → Kept a c
 kept_on a b c first second = record { sized = second.sized; runs = second.runs ∙ first.runs }
 
-weak_runs : (size : ℕ) (v : AbstractValue) (cells : List (ℕ × ℕ)) (m : Mem abstract_sets) → (weak_all abstract_sets m cells size v).runs ≡ m.runs
+weak_runs : (size : ℕ) (v : AbstractValue) (cells : List (ℕ × ℕ)) (m : Mem abstract_sets)
+    → (weak_all abstract_sets m cells size v).runs ≡ m.runs
 weak_runs size v [] m = refl
 weak_runs size v (cell ∷ cells) m = weak_runs size v cells (weak_at abstract_sets m cell size v)
 
-stored_runs : (size : ℕ) (v : AbstractValue) (cells : List (ℕ × ℕ)) (m : Mem abstract_sets) → (stored abstract_sets m cells size v).runs ≡ m.runs
+stored_runs : (size : ℕ) (v : AbstractValue) (cells : List (ℕ × ℕ)) (m : Mem abstract_sets)
+    → (stored abstract_sets m cells size v).runs ≡ m.runs
 stored_runs size v [] m = refl
 stored_runs size v (cell ∷ []) m = refl
 stored_runs size v (cell ∷ other ∷ cells) m = weak_runs size v (cell ∷ other ∷ cells) m
@@ -87,7 +90,8 @@ possible_kept P [] a holds = tt
 possible_kept P (cell ∷ cells) a holds = holds
 
 -- stores keep it
-pub stored_kept : (rows : List FrameShape) (m : Mem abstract_sets) (at v : AbstractValue) (size : ℕ) → MemSized abstract_sets m → IsCell size → IsValue size v
+pub stored_kept : (rows : List FrameShape) (m : Mem abstract_sets) (at v : AbstractValue) (size : ℕ)
+    → MemSized abstract_sets m → IsCell size → IsValue size v
     → IfLeft (Kept m) (stored_through rows m at v)
 stored_kept rows m at v size sized is of_v =
     subst (λ (s : ℕ). IfLeft (Kept m) (stored_by rows m at v s)) (sym (width_is size v of_v))
@@ -97,7 +101,8 @@ stored_kept rows m at v size sized is of_v =
     }))
 
 module _ (table : List FrameRow) (rows : List FrameShape) (k : ℕ) where
-  statement_kept : (s : NumberedStatement) (m : Mem abstract_sets) → KeepsStatement table k s → MemSized abstract_sets m → IfLeft (Kept m) (after_statement rows s m)
+  statement_kept : (s : NumberedStatement) (m : Mem abstract_sets) → KeepsStatement table k s → MemSized abstract_sets m
+      → IfLeft (Kept m) (after_statement rows s m)
   statement_kept Null m keeps sized = unchanged m sized
   statement_kept (Store to value) m keeps sized =
       keeps_on (IsValue 32) (Kept m) (value_at rows m to) (λ at. goes_on (value_at rows m value) (stored_through rows m at)) (value_sized table rows m sized k to 32 keeps.address)
@@ -106,14 +111,16 @@ module _ (table : List FrameRow) (rows : List FrameShape) (k : ℕ) where
       (λ v of_v. stored_kept rows m at v keeps.stored.size sized (cell_size keeps.stored.size keeps.stored.cell) of_v))
 
   -- and so do statements
-  pub statements_kept : (ss : List NumberedStatement) (m : Mem abstract_sets) → All (KeepsStatement table k) ss → MemSized abstract_sets m → IfLeft (Kept m) (after_statements rows ss m)
+  pub statements_kept : (ss : List NumberedStatement) (m : Mem abstract_sets) → All (KeepsStatement table k) ss
+      → MemSized abstract_sets m → IfLeft (Kept m) (after_statements rows ss m)
   statements_kept [] m keeps sized = unchanged m sized
   statements_kept (s ∷ ss) m keeps sized =
       keeps_on (Kept m) (Kept m) (after_statement rows s m) (λ next. after_statements rows ss next)
       (statement_kept s m (All-head (KeepsStatement table k) s ss keeps) sized)
       (λ next kept. further next kept (after_statements rows ss next).left (statements_kept ss next (All-tail (KeepsStatement table k) s ss keeps) kept.sized))
     where
-      further : (next : Mem abstract_sets) → Kept m next → (o : Option (Mem abstract_sets)) → IfSome o (Kept next) → IfSome o (Kept m)
+      further : (next : Mem abstract_sets) → Kept m next → (o : Option (Mem abstract_sets)) → IfSome o (Kept next)
+          → IfSome o (Kept m)
       further next kept None more = tt
       further next kept (Some last) more = kept_on m next last kept more
 
@@ -124,18 +131,21 @@ module _ (Sharp : Type 0) (rows : List FrameShape) where
   some_possible [] a some = absurd (some refl)
   some_possible (cell ∷ cells) a some = refl
 
-  stored_sound : (history after : List RunEvent) (value : Value) (r : Result Address RunFault) → IsSound history → FitsValue (size_of value) value → stored_run history value r ≡ Ok after → IsSound after
+  stored_sound : (history after : List RunEvent) (value : Value) (r : Result Address RunFault) → IsSound history
+      → FitsValue (size_of value) value → stored_run history value r ≡ Ok after → IsSound after
   stored_sound history after value (Ok address) sound fits e =
       let same : RunEvent.Store address.frame address.offset (size_of value) value ∷ history ≡ after = cc in subst IsSound same (fits, sound)
   stored_sound history after value (Err fault) sound fits e = cc
 
   -- a store through an address that is covered is told, at the value's own size
-  store_by : (m : Mem abstract_sets) (history : List RunEvent) (at v : AbstractValue) (place value : Value) → Stands Sharp rows m history → IsCell (size_of value)
+  store_by : (m : Mem abstract_sets) (history : List RunEvent) (at v : AbstractValue) (place value : Value)
+      → Stands Sharp rows m history → IsCell (size_of value)
       → IsValue 32 at → ValueTold Sharp at place → IsValue (size_of value) v → ValueTold Sharp v value → FitsValue (size_of value) value
       → Answers Sharp (Stands Sharp rows) (stored_by rows m at v (size_of value)) (store rows history place value)
   store_by m history at v place value stands is of_at at_told of_v v_told fits = go (store rows history place value) refl
     where
-      go : (r : Result (List RunEvent) RunFault) → store rows history place value ≡ r → Answers Sharp (Stands Sharp rows) (stored_by rows m at v (size_of value)) r
+      go : (r : Result (List RunEvent) RunFault) → store rows history place value ≡ r
+          → Answers Sharp (Stands Sharp rows) (stored_by rows m at v (size_of value)) r
       go (Ok after) e =
           let both = stores_at rows m history after at v place value stands.sound stands.sized stands.covers is of_at of_v fits at_told.covers v_told.covers e in
           let sharp_both = λ (sharp : Sharp). stores_only rows m history after at v place value stands.sound stands.sized (stands.sharp sharp) is of_at of_v fits (at_told.only sharp) (v_told.only sharp) e in
@@ -171,10 +181,12 @@ module _ (Sharp : Type 0) (rows : List FrameShape) where
 
   module _ (table : List FrameRow) (k : ℕ) (sizes : ValueHasSize) where
     -- what is left of an expression
-    of_left : (P : AbstractValue → Type 0) (r : Remains AbstractValue) (a : AbstractValue) → IfLeft P r → r.left ≡ Some a → P a
+    of_left : (P : AbstractValue → Type 0) (r : Remains AbstractValue) (a : AbstractValue) → IfLeft P r
+        → r.left ≡ Some a → P a
     of_left P r a kept is = subst (λ (o : Option AbstractValue). IfSome o P) is kept
 
-    after_both : (m : Mem abstract_sets) (history : List RunEvent) (to value : NumberedExpression) (size : ℕ) → Stands Sharp rows m history → IsCell size
+    after_both : (m : Mem abstract_sets) (history : List RunEvent) (to value : NumberedExpression) (size : ℕ)
+        → Stands Sharp rows m history → IsCell size
         → HasSize table k 32 to → HasSize table k size value → (first second : Result Value RunFault) → value_of rows history value ≡ second
         → Answers Sharp (ValueTold Sharp) (value_at rows m to) first → Answers Sharp (ValueTold Sharp) (value_at rows m value) second
         → Answers Sharp (Stands Sharp rows) (goes_on (value_at rows m to) (λ at. goes_on (value_at rows m value) (stored_through rows m at))) (runs.after_store rows history first second)
@@ -194,7 +206,8 @@ module _ (Sharp : Type 0) (rows : List FrameShape) where
         (sizes table k size value rows history given has_value stands.sound e)))
 
     -- the history after a statement is covered, or the fault told
-    pub statement_told : (s : NumberedStatement) (m : Mem abstract_sets) (history : List RunEvent) → KeepsStatement table k s → Stands Sharp rows m history
+    pub statement_told : (s : NumberedStatement) (m : Mem abstract_sets) (history : List RunEvent)
+        → KeepsStatement table k s → Stands Sharp rows m history
         → Answers Sharp (Stands Sharp rows) (after_statement rows s m) (runs.after_statement rows s history)
     statement_told Null m history keeps stands = all_told Sharp (λ n. Stands Sharp rows n history) m stands
     statement_told (Store to value) m history keeps stands =
@@ -213,7 +226,8 @@ module _ (Sharp : Type 0) (rows : List FrameShape) where
     then_statements s ss m history rest (Err fault) told = fault_stops Sharp (after_statement rows s m) (λ n. after_statements rows ss n) fault told
 
     -- and so after statements in order
-    pub statements_told : (ss : List NumberedStatement) (m : Mem abstract_sets) (history : List RunEvent) → All (KeepsStatement table k) ss → Stands Sharp rows m history
+    pub statements_told : (ss : List NumberedStatement) (m : Mem abstract_sets) (history : List RunEvent)
+        → All (KeepsStatement table k) ss → Stands Sharp rows m history
         → Answers Sharp (Stands Sharp rows) (after_statements rows ss m) (runs.after_statements rows ss (Ok history))
     statements_told [] m history keeps stands = all_told Sharp (λ n. Stands Sharp rows n history) m stands
     statements_told (s ∷ ss) m history keeps stands =

@@ -54,18 +54,21 @@ cell_size size cell = let least = cell.least in (omega (arith, least), cell.byte
 pub word_size : (size : ℕ) → IsSize size → IsWordSize size
 word_size size is = record { least = is.some; most = is.most }
 
-size_of_row : (test : Bool) (found size : ℕ) → (if test then Some found else None) ≡ (let o : Option ℕ = Some size in o) → found ≡ size
+size_of_row : (test : Bool) (found size : ℕ) → (if test then Some found else None) ≡ (let o : Option ℕ = Some size in o)
+    → found ≡ size
 size_of_row test found size is = by_test test
     (λ typed. let e : Some found ≡ (let o : Option ℕ = Some size in o) = rw typed at is in cc)
     (λ other. let e : None ≡ (let o : Option ℕ = Some size in o) = rw other at is in cc)
 
-pub result_has : (op : Op) (sizes : List ℕ) (size : ℕ) → result_size op sizes ≡ Some size → size_of_result op sizes ≡ size
+pub result_has : (op : Op) (sizes : List ℕ) (size : ℕ) → result_size op sizes ≡ Some size
+    → size_of_result op sizes ≡ size
 result_has op sizes size is = size_of_row (is_written_so (layout_of op) sizes) (size_of_result op sizes) size is
 
 has_result : (op : Op) (sizes : List ℕ) (size : ℕ) → result_size op sizes ≡ Some size → IsSome (result_size op sizes)
 has_result op sizes size is = subst (λ (o : Option ℕ). IsSome o) (sym is) refl
 
-joined_sized : (size : ℕ) (before : Option AbstractValue) (rs : List (Result AbstractValue RunFault)) → IfSome before (IsValue size) → EachSized abstract_sets size rs
+joined_sized : (size : ℕ) (before : Option AbstractValue) (rs : List (Result AbstractValue RunFault))
+    → IfSome before (IsValue size) → EachSized abstract_sets size rs
     → IfSome (joined_values abstract_sets before rs) (IsValue size)
 joined_sized size before [] is each = is
 joined_sized size before (Ok set ∷ rs) is each =
@@ -74,14 +77,16 @@ joined_sized size before (Ok set ∷ rs) is each =
 joined_sized size before (Err fault ∷ rs) is each = joined_sized size before rs is each
 
 -- a load has its size
-pub loaded_sized : (rows : List FrameShape) (m : Mem abstract_sets) (size : ℕ) (at : AbstractValue) → MemSized abstract_sets m → IsCell size → IfLeft (IsValue size) (loaded rows m size at)
+pub loaded_sized : (rows : List FrameShape) (m : Mem abstract_sets) (size : ℕ) (at : AbstractValue)
+    → MemSized abstract_sets m → IsCell size → IfLeft (IsValue size) (loaded rows m size at)
 loaded_sized rows m size at sized is =
     joined_sized size None (load_at rows m at size) tt (all_results_sized abstract_sets abstract_is_sets m size is sized (cells_of rows m.runs at.places size))
 
 module _ (table : List FrameRow) (rows : List FrameShape) (m : Mem abstract_sets) (sized : MemSized abstract_sets m) (k : ℕ) where
   mutual
     -- what is left of an expression has its size
-    pub value_sized : (e : NumberedExpression) (size : ℕ) → HasSize table k size e → IfLeft (IsValue size) (value_at rows m e)
+    pub value_sized : (e : NumberedExpression) (size : ℕ) → HasSize table k size e
+        → IfLeft (IsValue size) (value_at rows m e)
     value_sized (Number num) size has =
         subst (λ (s : ℕ). IsValue s (word_value num.size num.bits)) has.same
         (word_is num.size num.bits (word_size num.size (subst IsSize (sym has.same) has.sized)) (subst (λ (s : ℕ). num.bits < 2 ^ s) (sym has.same) has.fits))
@@ -94,7 +99,8 @@ module _ (table : List FrameRow) (rows : List FrameShape) (m : Mem abstract_sets
         (λ vs are. subst (λ (s : ℕ). IfLeft (IsValue s) (operated op sizes vs)) (result_has op sizes size has.result_is)
         (applied_is op sizes vs (has_result op sizes size has.result_is) are))
 
-    pub values_sized : (es : NumberedExpressions) (sizes : List ℕ) → HaveSizes table k sizes es → IfLeft (AllZip IsValue sizes) (values_at rows m es)
+    pub values_sized : (es : NumberedExpressions) (sizes : List ℕ) → HaveSizes table k sizes es
+        → IfLeft (AllZip IsValue sizes) (values_at rows m es)
     values_sized Empty [] have = tt
     values_sized Empty (size ∷ sizes) have = absurd have
     values_sized (With e es) [] have = absurd have
@@ -105,14 +111,16 @@ module _ (table : List FrameRow) (rows : List FrameShape) (m : Mem abstract_sets
 -- ---- loads
 
 module _ (Sharp : Type 0) (rows : List FrameShape) (m : Mem abstract_sets) (history : List RunEvent) (stands : Stands Sharp rows m history) where
-  fault_told : (size : ℕ) (at : AbstractValue) (fault : RunFault) → IsValue 32 at → IsLoadFault rows m at size fault → has_fault (loaded rows m size at).faults fault ≡ true
+  fault_told : (size : ℕ) (at : AbstractValue) (fault : RunFault) → IsValue 32 at → IsLoadFault rows m at size fault
+      → has_fault (loaded rows m size at).faults fault ≡ true
   fault_told size at fault is told = elim told [
     | inl a ↦ in_first (address_faults rows m.runs at size) (fault_set (faults_of abstract_sets (load_at rows m at size))) fault (address_told rows m.runs at size fault is a)
     | inr c ↦ in_second (address_faults rows m.runs at size) (fault_set (faults_of abstract_sets (load_at rows m at size))) fault
         (in_set (faults_of abstract_sets (load_at rows m at size)) fault c)
   ]
 
-  fault_from : (size : ℕ) (at : AbstractValue) (fault : RunFault) → IsValue 32 at → has_fault (loaded rows m size at).faults fault ≡ true → IsLoadFault rows m at size fault
+  fault_from : (size : ℕ) (at : AbstractValue) (fault : RunFault) → IsValue 32 at
+      → has_fault (loaded rows m size at).faults fault ≡ true → IsLoadFault rows m at size fault
   fault_from size at fault is told =
       elim (in_either (address_faults rows m.runs at size) (fault_set (faults_of abstract_sets (load_at rows m at size))) fault told) [
         | inl a ↦ inl (address_from rows m.runs at size fault is a)
@@ -120,19 +128,22 @@ module _ (Sharp : Type 0) (rows : List FrameShape) (m : Mem abstract_sets) (hist
       ]
 
   -- a load through an address that is covered is told
-  pub load_told : (size : ℕ) (at : AbstractValue) (place : Value) → IsCell size → IsValue 32 at → ValueTold Sharp at place
+  pub load_told : (size : ℕ) (at : AbstractValue) (place : Value) → IsCell size → IsValue 32 at
+      → ValueTold Sharp at place
       → Answers Sharp (ValueTold Sharp) (loaded rows m size at) (load rows history place size)
   load_told size at place is of_at told =
       go (load rows history place size) (loads_at rows m history at place size stands.sound stands.sized stands.covers is of_at told.covers)
       (λ sharp. loads_only rows m history at place size stands.sized (stands.sharp sharp) is of_at (told.only sharp))
     where
-      left : (value : Value) (o : Option AbstractValue) → joined_values abstract_sets None (load_at rows m at size) ≡ o → IsSomeAnd o (λ set. Covers set value)
+      left : (value : Value) (o : Option AbstractValue) → joined_values abstract_sets None (load_at rows m at size) ≡ o
+          → IsSomeAnd o (λ set. Covers set value)
           → (Sharp → IsSomeAnd o (λ set. OnlyCovers abstract_sets set value)) → (Sharp → HasNone (loaded rows m size at).faults)
           → LeftTold Sharp (λ v. ValueTold Sharp v value) (loaded rows m size at)
       left value None e covers only none = elim covers [ ]
       left value (Some v) e covers only none = record { value = v; is = e; holds = record { covers = covers; only = only }; none = none }
 
-      go : (r : Result Value RunFault) → TellsLoad rows m at size r → (Sharp → TellsOnly rows m at size r) → Answers Sharp (ValueTold Sharp) (loaded rows m size at) r
+      go : (r : Result Value RunFault) → TellsLoad rows m at size r → (Sharp → TellsOnly rows m at size r)
+          → Answers Sharp (ValueTold Sharp) (loaded rows m size at) r
       go (Ok value) covers only =
           left value (joined_values abstract_sets None (load_at rows m at size)) refl covers (λ sharp. (only sharp).0)
           (λ sharp fault e. (only sharp).1 fault (fault_from size at fault of_at e))
@@ -150,16 +161,19 @@ module _ (Sharp : Type 0) (rows : List FrameShape) (m : Mem abstract_sets) (hist
   all_covers (v ∷ vs) [] told = absurd told
   all_covers (v ∷ vs) (value ∷ values) told = (told.0.covers, all_covers vs values told.1)
 
-  all_only : Sharp → (vs : List AbstractValue) (values : List Value) → AllTold Sharp vs values → AllZip OneCovers vs values
+  all_only : Sharp → (vs : List AbstractValue) (values : List Value) → AllTold Sharp vs values
+      → AllZip OneCovers vs values
   all_only sharp [] [] told = tt
   all_only sharp [] (value ∷ values) told = absurd told
   all_only sharp (v ∷ vs) [] told = absurd told
   all_only sharp (v ∷ vs) (value ∷ values) told = (as_one v value (told.0.only sharp), all_only sharp vs values told.1)
 
-  outcome_told : (out : Outcome) (r : Result Value RunFault) → Tells out r → (Sharp → OnlyTells out r) → Answers Sharp (ValueTold Sharp) (remains_of out) r
+  outcome_told : (out : Outcome) (r : Result Value RunFault) → Tells out r → (Sharp → OnlyTells out r)
+      → Answers Sharp (ValueTold Sharp) (remains_of out) r
   outcome_told out (Ok value) tells only = left out.value refl tells (λ sharp. (only sharp).0)
     where
-      left : (o : Option AbstractValue) → out.value ≡ o → IsSomeAnd o (λ v. Covers v value) → (Sharp → IsSomeAnd o (λ v. OneCovers v value))
+      left : (o : Option AbstractValue) → out.value ≡ o → IsSomeAnd o (λ v. Covers v value)
+          → (Sharp → IsSomeAnd o (λ v. OneCovers v value))
           → LeftTold Sharp (λ v. ValueTold Sharp v value) (remains_of out)
       left None e covers one = elim covers [ ]
       left (Some v) e covers one = record {
@@ -174,7 +188,8 @@ module _ (Sharp : Type 0) (rows : List FrameShape) (m : Mem abstract_sets) (hist
     one = λ sharp. subst (λ set. HasOnly set fault) (sym (only sharp).1) (one_alone fault);
   }
 
-  operated_told : (op : Op) (sizes : List ℕ) (size : ℕ) (vs : List AbstractValue) (values : List Value) → result_size op sizes ≡ Some size → AllZip IsValue (operand_sizes op sizes) vs
+  operated_told : (op : Op) (sizes : List ℕ) (size : ℕ) (vs : List AbstractValue) (values : List Value)
+      → result_size op sizes ≡ Some size → AllZip IsValue (operand_sizes op sizes) vs
       → AllTold Sharp vs values → Answers Sharp (ValueTold Sharp) (operated op sizes vs) (outcome op sizes values)
   operated_told op sizes size vs values typed are told =
       outcome_told (applied op sizes vs) (outcome op sizes values) (applied_tells op sizes vs values (has_result op sizes size typed) are (all_covers vs values told))
@@ -188,7 +203,8 @@ module _ (Sharp : Type 0) (rows : List FrameShape) (m : Mem abstract_sets) (hist
   row_told first rest (Err fault) rs told more = fault_stops Sharp first (before rest) fault told
   row_told first rest (Ok value) rs told more = go (operands rs) more
     where
-      go : (o : Result (List Value) RunFault) → Answers Sharp (AllTold Sharp) rest o → Answers Sharp (AllTold Sharp) (goes_on first (before rest)) (before_run value o)
+      go : (o : Result (List Value) RunFault) → Answers Sharp (AllTold Sharp) rest o
+          → Answers Sharp (AllTold Sharp) (goes_on first (before rest)) (before_run value o)
       go (Ok values) more =
           left_on Sharp (λ v. ValueTold Sharp v value) (λ vs. AllTold Sharp vs (value ∷ values)) first (before rest) told
           (left_on Sharp (λ vs. AllTold Sharp vs values) (λ vs. AllTold Sharp vs (value ∷ values)) rest (λ vs. all_left (told.value ∷ vs)) more
@@ -201,7 +217,8 @@ module _ (Sharp : Type 0) (rows : List FrameShape) (m : Mem abstract_sets) (hist
   kept_value : {A : Type 0} (P : A → Type 0) (r : Remains A) (a : A) → IfLeft P r → r.left ≡ Some a → P a
   kept_value {A} P r a kept is = subst (λ (o : Option A). IfSome o P) is kept
 
-  from_address : (size : ℕ) (at : Remains AbstractValue) (r : Result Value RunFault) → IsCell size → IfLeft (IsValue 32) at → Answers Sharp (ValueTold Sharp) at r
+  from_address : (size : ℕ) (at : Remains AbstractValue) (r : Result Value RunFault) → IsCell size
+      → IfLeft (IsValue 32) at → Answers Sharp (ValueTold Sharp) at r
       → Answers Sharp (ValueTold Sharp) (goes_on at (loaded rows m size)) (load_from rows history size r)
   from_address size at (Ok place) is kept told =
       answers_on Sharp (λ v. ValueTold Sharp v place) (ValueTold Sharp) at (loaded rows m size) (load rows history place size) told
@@ -219,7 +236,8 @@ module _ (Sharp : Type 0) (rows : List FrameShape) (m : Mem abstract_sets) (hist
   module _ (table : List FrameRow) (k : ℕ) where
     mutual
       -- the value of the run is covered, or its fault told
-      pub value_told : (e : NumberedExpression) (size : ℕ) → HasSize table k size e → Answers Sharp (ValueTold Sharp) (value_at rows m e) (value_of rows history e)
+      pub value_told : (e : NumberedExpression) (size : ℕ) → HasSize table k size e
+          → Answers Sharp (ValueTold Sharp) (value_at rows m e) (value_of rows history e)
       value_told (Number num) size has =
           all_told Sharp (λ v. ValueTold Sharp v (Int num.size num.bits)) (word_value num.size num.bits)
           (word_told Sharp num.size num.bits (word_size num.size (subst IsSize (sym has.same) has.sized)) (subst (λ (s : ℕ). num.bits < 2 ^ s) (sym has.same) has.fits))
@@ -231,7 +249,8 @@ module _ (Sharp : Type 0) (rows : List FrameShape) (m : Mem abstract_sets) (hist
           from_operands op sizes size (values_at rows m es) (operands (results_of rows history es)) has.result_is
           (values_sized table rows m stands.sized k es (operand_sizes op sizes) has.operands) (values_told es (operand_sizes op sizes) has.operands)
 
-      pub values_told : (es : NumberedExpressions) (sizes : List ℕ) → HaveSizes table k sizes es → Answers Sharp (AllTold Sharp) (values_at rows m es) (operands (results_of rows history es))
+      pub values_told : (es : NumberedExpressions) (sizes : List ℕ) → HaveSizes table k sizes es
+          → Answers Sharp (AllTold Sharp) (values_at rows m es) (operands (results_of rows history es))
       values_told Empty [] have = all_told Sharp (λ vs. AllTold Sharp vs []) [] tt
       values_told Empty (size ∷ sizes) have = absurd have
       values_told (With e es) [] have = absurd have
@@ -253,7 +272,8 @@ pub record ArgumentIs (table : List FrameRow) (k f : ℕ) (v : AbstractValue) : 
   pub keeps : ArgumentKeeps table k f arg
   pub is : IsValue keeps.row.bits v
 
-pub arguments_sized : (table : List FrameRow) (rows : List FrameShape) (m : Mem abstract_sets) → MemSized abstract_sets m → (k : ℕ) (args : List ℕ) (es : List NumberedExpression)
+pub arguments_sized : (table : List FrameRow) (rows : List FrameShape) (m : Mem abstract_sets)
+    → MemSized abstract_sets m → (k : ℕ) (args : List ℕ) (es : List NumberedExpression)
     → AllZip (ArgumentKeeps table k) args es → IfLeft (AllZip (ArgumentIs table k) args) (arguments_at rows m es)
 arguments_sized table rows m sized k [] [] keep = tt
 arguments_sized table rows m sized k [] (e ∷ es) keep = absurd keep

@@ -33,7 +33,8 @@ load_fault_told rows m size at fault is =
     )
 
 -- the set of a load's faults is the transfer's
-pub loaded_faults : (rows : List FrameShape) (m : Mem abstract_sets) (size : ℕ) (at : AbstractValue) (faults : FaultSet) → IsValue 32 at
+pub loaded_faults : (rows : List FrameShape) (m : Mem abstract_sets) (size : ℕ) (at : AbstractValue) (faults : FaultSet)
+    → IsValue 32 at
     → ((fault : RunFault) → (has_fault faults fault ≡ true) ↔ IsLoadFault rows m at size fault) → faults ≡ (loaded rows m size at).faults
 loaded_faults rows m size at faults is each =
     same_faults faults (loaded rows m size at).faults
@@ -42,7 +43,8 @@ loaded_faults rows m size at faults is each =
     (λ e. (each fault).1 ((load_fault_told rows m size at fault is).0 e)))
 
 -- so is the set of a store's
-pub stored_faults : (rows : List FrameShape) (runs : ℕ → Bool) (size : ℕ) (at : AbstractValue) (faults : FaultSet) → IsValue 32 at
+pub stored_faults : (rows : List FrameShape) (runs : ℕ → Bool) (size : ℕ) (at : AbstractValue) (faults : FaultSet)
+    → IsValue 32 at
     → ((fault : RunFault) → (has_fault faults fault ≡ true) ↔ IsAddressFault rows runs at size fault) → faults ≡ address_faults rows runs at size
 stored_faults rows runs size at faults is each =
     same_faults faults (address_faults rows runs at size)

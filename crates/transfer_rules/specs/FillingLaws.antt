@@ -47,13 +47,15 @@ use Rattle.transfer_rules.specs.DoingLaws.{width_is, own_size, own_fits, Kept, u
 -- ---- cells
 
 -- a cell of an active frame
-pub placed : (table : List FrameRow) (history : List RunEvent) (frame offset size : ℕ) (row : FrameRow) → slice_get table frame ≡ Some row → is_active row.owner history ≡ true
+pub placed : (table : List FrameRow) (history : List RunEvent) (frame offset size : ℕ) (row : FrameRow)
+    → slice_get table frame ≡ Some row → is_active row.owner history ≡ true
     → offset * 8 + size ≤ row.bits → IsPlaced (shapes_of table) history frame offset size
 placed table history frame offset size row at active room =
     let shape : FrameRow → FrameShape = λ (r : FrameRow). record { owner = r.owner; bits = r.bits } in
     record { row = shape row; found = slice_get-map shape table frame ∙ ap (option_map shape) at; runs = active; fits = le-leb (offset * 8 + size) row.bits room }
 
-one_placed : (rows : List FrameShape) (history : List RunEvent) (frame offset size : ℕ) → IsPlaced rows history frame offset size → (cell : ℕ × ℕ) → Contains ((frame, offset) ∷ []) cell
+one_placed : (rows : List FrameShape) (history : List RunEvent) (frame offset size : ℕ)
+    → IsPlaced rows history frame offset size → (cell : ℕ × ℕ) → Contains ((frame, offset) ∷ []) cell
     → IsPlaced rows history cell.0 cell.1 size
 one_placed rows history frame offset size p cell among =
     first_or_further (frame, offset) [] cell among (λ same. subst (λ (c : ℕ × ℕ). IsPlaced rows history c.0 c.1 size) same p) (λ none. no_member cell none)
@@ -72,7 +74,8 @@ filled_told Sharp rows m history frame offset size v value stands p is of_v told
       memory_stays_sharp abstract_sets abstract_is_sets rows m history frame offset size v value stands.sound stands.sized (stands.sharp sharp) is of_v (told.only sharp) fits p;
 }
 
-pub filled_kept : (m : Mem abstract_sets) (frame offset size : ℕ) (v : AbstractValue) → MemSized abstract_sets m → IsCell size → IsValue size v → Kept m (filled m frame offset size v)
+pub filled_kept : (m : Mem abstract_sets) (frame offset size : ℕ) (v : AbstractValue) → MemSized abstract_sets m
+    → IsCell size → IsValue size v → Kept m (filled m frame offset size v)
 filled_kept m frame offset size v sized is of_v = record { sized = store_sized abstract_sets abstract_is_sets m ((frame, offset) ∷ []) size v sized is of_v; runs = refl }
 
 -- ---- arguments
@@ -112,12 +115,14 @@ module _ (table : List FrameRow) (k f : ℕ) where
       let here = subst (λ (s : ℕ). Stands Sharp (shapes_of table) (filled m frame 0 s v) (Store frame 0 (size_of value) value ∷ history)) (sym (width_is (size_of value) v of_v)) next in
       arguments_told Sharp args vs values (filled m frame 0 (width_of v) v) (Store frame 0 (size_of value) value ∷ history) running (rest_of table f frame args are) is.1 fits.1 told.1 here
 
-  arguments_run : (args : List ℕ) (values : List Value) (history : List RunEvent) → is_running (runs.with_arguments args values history) f ≡ is_running history f
+  arguments_run : (args : List ℕ) (values : List Value) (history : List RunEvent)
+      → is_running (runs.with_arguments args values history) f ≡ is_running history f
   arguments_run [] values history = refl
   arguments_run (frame ∷ args) [] history = refl
   arguments_run (frame ∷ args) (value ∷ values) history = arguments_run args values (Store frame 0 (size_of value) value ∷ history)
 
-  arguments_kept : (args : List ℕ) (vs : List AbstractValue) (m : Mem abstract_sets) → AllZip (ArgumentIs table k) args vs → MemSized abstract_sets m → Kept m (with_arguments args vs m)
+  arguments_kept : (args : List ℕ) (vs : List AbstractValue) (m : Mem abstract_sets)
+      → AllZip (ArgumentIs table k) args vs → MemSized abstract_sets m → Kept m (with_arguments args vs m)
   arguments_kept [] vs m is sized = unchanged m sized
   arguments_kept (frame ∷ args) [] m is sized = absurd is
   arguments_kept (frame ∷ args) (v ∷ vs) m is sized =
@@ -128,12 +133,14 @@ module _ (table : List FrameRow) (k f : ℕ) where
 
 -- ---- what frames hold at first
 
-active_on : (owner : Option ℕ) (frame offset size : ℕ) (value : Value) (history : List RunEvent) → is_active owner history ≡ true → is_active owner (Store frame offset size value ∷ history) ≡ true
+active_on : (owner : Option ℕ) (frame offset size : ℕ) (value : Value) (history : List RunEvent)
+    → is_active owner history ≡ true → is_active owner (Store frame offset size value ∷ history) ≡ true
 active_on None frame offset size value history active = refl
 active_on (Some f) frame offset size value history active = active
 
 module _ (table : List FrameRow) (owner : Option ℕ) where
-  pub inits_told : (Sharp : Type 0) (inits : List InitRow) (m : Mem abstract_sets) (history : List RunEvent) → is_active owner history ≡ true → All (InitFits table owner) inits
+  pub inits_told : (Sharp : Type 0) (inits : List InitRow) (m : Mem abstract_sets) (history : List RunEvent)
+      → is_active owner history ≡ true → All (InitFits table owner) inits
       → Stands Sharp (shapes_of table) m history → Stands Sharp (shapes_of table) (with_inits inits m) (runs.with_inits inits history)
   inits_told Sharp [] m history active fit stands = stands
   inits_told Sharp (init ∷ inits) m history active fit stands =
@@ -149,13 +156,15 @@ module _ (table : List FrameRow) (owner : Option ℕ) where
       (filled_told Sharp (shapes_of table) m history init.frame init.offset init.num.size (word_value init.num.size init.num.bits) (Int init.num.size init.num.bits) stands p
       (cell_size init.num.size own.cell) (word_is init.num.size init.num.bits size own.word.fits) (word_told Sharp init.num.size init.num.bits size own.word.fits) (refl, own.word.fits))
 
-  inits_run : (inits : List InitRow) (history : List RunEvent) → is_active owner history ≡ true → is_active owner (runs.with_inits inits history) ≡ true
+  inits_run : (inits : List InitRow) (history : List RunEvent) → is_active owner history ≡ true
+      → is_active owner (runs.with_inits inits history) ≡ true
   inits_run [] history active = active
   inits_run (init ∷ inits) history active =
       inits_run inits (Store init.frame init.offset init.num.size (Int init.num.size init.num.bits) ∷ history)
       (active_on owner init.frame init.offset init.num.size (Int init.num.size init.num.bits) history active)
 
-  pub inits_kept : (inits : List InitRow) (m : Mem abstract_sets) → All (InitFits table owner) inits → MemSized abstract_sets m → Kept m (with_inits inits m)
+  pub inits_kept : (inits : List InitRow) (m : Mem abstract_sets) → All (InitFits table owner) inits
+      → MemSized abstract_sets m → Kept m (with_inits inits m)
   inits_kept [] m fit sized = unchanged m sized
   inits_kept (init ∷ inits) m fit sized =
       let own = All-head (InitFits table owner) init inits fit in
@@ -168,7 +177,8 @@ module _ (table : List FrameRow) (owner : Option ℕ) where
 -- ---- functions entered
 
 -- the memory after the function is entered
-entered_stands : (Sharp : Type 0) (rows : List FrameShape) (m : Mem abstract_sets) (history : List RunEvent) (f : ℕ) → Stands Sharp rows m history
+entered_stands : (Sharp : Type 0) (rows : List FrameShape) (m : Mem abstract_sets) (history : List RunEvent) (f : ℕ)
+    → Stands Sharp rows m history
     → Stands Sharp rows (entered abstract_sets rows m f) (Enter f ∷ history)
 entered_stands Sharp rows m history f stands = record {
   sound = stands.sound;
@@ -207,7 +217,8 @@ module _ (program : NumberedProgram) (keeps : IsKept program) (f : ℕ) (functio
       (entered_stands Sharp (frames_of program) m history f stands)))
 
   -- the sizes, and the functions that run
-  pub entered_kept : (k : ℕ) (vs : List AbstractValue) (m : Mem abstract_sets) → AllZip (ArgumentIs program.frames k) function.args vs → MemSized abstract_sets m
+  pub entered_kept : (k : ℕ) (vs : List AbstractValue) (m : Mem abstract_sets)
+      → AllZip (ArgumentIs program.frames k) function.args vs → MemSized abstract_sets m
       → Kept (entered abstract_sets (frames_of program) m f) (entered_with program f vs m)
   entered_kept k vs m is sized =
       rw (args_are, inits_are)
@@ -225,7 +236,8 @@ module _ (program : NumberedProgram) (keeps : IsKept program) (f : ℕ) (functio
   no_arguments_run [] history = refl
   no_arguments_run (frame ∷ args) history = refl
 
-  pub entered_inits : (Sharp : Type 0) (m : Mem abstract_sets) (history : List RunEvent) → Stands Sharp (frames_of program) m history
+  pub entered_inits : (Sharp : Type 0) (m : Mem abstract_sets) (history : List RunEvent)
+      → Stands Sharp (frames_of program) m history
       → Stands Sharp (frames_of program) (entered_with program f [] m) (runs.entered program f [] history) × (is_running (runs.entered program f [] history) f ≡ true)
   entered_inits Sharp m history stands =
       rw (args_are, inits_are, no_arguments function.args (entered abstract_sets (frames_of program) m f), no_arguments_run function.args (Enter f ∷ history)) (
@@ -234,7 +246,8 @@ module _ (program : NumberedProgram) (keeps : IsKept program) (f : ℕ) (functio
         inits_run program.frames (Some f) function.inits (Enter f ∷ history) (running_in history),
       )
 
-  pub entered_inits_kept : (m : Mem abstract_sets) → MemSized abstract_sets m → Kept (entered abstract_sets (frames_of program) m f) (entered_with program f [] m)
+  pub entered_inits_kept : (m : Mem abstract_sets) → MemSized abstract_sets m
+      → Kept (entered abstract_sets (frames_of program) m f) (entered_with program f [] m)
   entered_inits_kept m sized =
       rw (args_are, inits_are, no_arguments function.args (entered abstract_sets (frames_of program) m f))
       (inits_kept program.frames (Some f) function.inits (entered abstract_sets (frames_of program) m f) ((keeps.functions f function at).inits)

@@ -18,7 +18,8 @@ use Rattle.transfer_rules.specs.Inside.{IsStoreInside, IsInside}
 
 -- ---- what lies past the end of a frame
 
-past_cell : (bits offset size byte : ℕ) → fits_in bits offset size ≡ true → bits / 8 ≤ byte → is_byte_of offset size byte ≡ false
+past_cell : (bits offset size byte : ℕ) → fits_in bits offset size ≡ true → bits / 8 ≤ byte
+    → is_byte_of offset size byte ≡ false
 past_cell bits offset size byte fits past = by_test (is_byte_of offset size byte)
     (λ e.
     let parts = and_parts (nat_le offset byte) (nat_lt byte (offset + size / 8)) e in
@@ -27,7 +28,8 @@ past_cell bits offset size byte fits past = by_test (is_byte_of offset size byte
     absurd (omega (arith, low, room, past)))
     (λ e. e)
 
-pub outside : (rows : List FrameShape) (row : FrameShape) (frame byte : ℕ) (history : List RunEvent) → slice_get rows frame ≡ Some row → row.bits / 8 ≤ byte → IsInside rows history
+pub outside : (rows : List FrameShape) (row : FrameShape) (frame byte : ℕ) (history : List RunEvent)
+    → slice_get rows frame ≡ Some row → row.bits / 8 ≤ byte → IsInside rows history
     → origin row.owner frame history byte ≡ None
 outside rows row frame byte [] found past inside = refl
 outside rows row frame byte (Enter function ∷ history) found past inside = by_test (is_owner row.owner function)
@@ -43,11 +45,13 @@ outside rows row frame byte (Store other offset size value ∷ history) found pa
 
 -- ---- stores without a fault
 
-pub store_inside : (rows : List FrameShape) (history new : List RunEvent) (place value : Value) → IsInside rows history → store rows history place value ≡ Ok new → IsInside rows new
+pub store_inside : (rows : List FrameShape) (history new : List RunEvent) (place value : Value) → IsInside rows history
+    → store rows history place value ≡ Ok new → IsInside rows new
 store_inside rows history new (Int own word) value inside done = cc
 store_inside rows history new (Ptr frame offset) value inside done = go (slice_get rows frame) refl done
   where
-    go : (found : Option FrameShape) → slice_get rows frame ≡ found → stored history value (address_in found history frame offset (size_of value)) ≡ Ok new → IsInside rows new
+    go : (found : Option FrameShape) → slice_get rows frame ≡ found
+        → stored history value (address_in found history frame offset (size_of value)) ≡ Ok new → IsInside rows new
     go None found e = cc
     go (Some row) found e = by_test (is_active row.owner history)
         (λ active. by_test (fits_in row.bits offset (size_of value))
@@ -58,7 +62,8 @@ store_inside rows history new (Ptr frame offset) value inside done = go (slice_g
         (λ past. let bad : Err Bounds ≡ Ok new = rw (active, past) at e in cc))
         (λ dead. let bad : Err Dead ≡ Ok new = rw dead at e in cc)
 
-pub by_stores_inside : (rows : List FrameShape) (old new : List RunEvent) → ByStores rows old new → IsInside rows old → IsInside rows new
+pub by_stores_inside : (rows : List FrameShape) (old new : List RunEvent) → ByStores rows old new → IsInside rows old
+    → IsInside rows new
 by_stores_inside rows old new (unchanged history) inside = inside
 by_stores_inside rows old new (first_store before middle after place value done rest) inside =
     by_stores_inside rows middle new rest (store_inside rows old middle place value inside done)

@@ -44,7 +44,8 @@ use Rattle.transfer_rules.specs.StartLaws.{OnlyInputs, first_told, only_inputs, 
 -- ---- memories as a lattice
 
 -- a sharp memory covers
-sharp_covers : (program : NumberedProgram) (m : Mem abstract_sets) (history : List RunEvent) → SharpFor program m history → CoversHistory program m history
+sharp_covers : (program : NumberedProgram) (m : Mem abstract_sets) (history : List RunEvent)
+    → SharpFor program m history → CoversHistory program m history
 sharp_covers program m history h = record {
   sound = h.sound;
   covers = record { active = h.sharp.active; frames = λ frame row found runs. (h.sharp.frames frame row found runs).covers };
@@ -53,7 +54,8 @@ sharp_covers program m history h = record {
 -- an order of memories by which joins and what is above may be told
 pub record SuitsMemories (program : NumberedProgram) (order : Order (Mem abstract_sets)) : Type 0 where
   pub alike : (a b : Mem abstract_sets) → AreAlike a b → order.alike a b
-  pub above : (a b : Mem abstract_sets) → order.under a b → (history : List RunEvent) → CoversHistory program a history → CoversHistory program b history
+  pub above : (a b : Mem abstract_sets) → order.under a b → (history : List RunEvent) → CoversHistory program a history
+      → CoversHistory program b history
   pub joined : (a b : Mem abstract_sets) → order.joined a b ≡ both abstract_sets a b
 
 pub own_order_suits : (program : NumberedProgram) → SuitsMemories program (memory_order program)
@@ -66,13 +68,15 @@ module _ (program : NumberedProgram) (graph : GraphParts) (rows : List InputRow)
   expansion = kept.promises.points.expands program graph kept.keeps kept.is
 
   -- the goals of a step are those of the node
-  goals_of : (n : ℕ) (m : Mem abstract_sets) → Fits program graph n m → (goal : Goal × Mem abstract_sets) → Contains (goals_left (goals_from program graph n m).left) goal
+  goals_of : (n : ℕ) (m : Mem abstract_sets) → Fits program graph n m → (goal : Goal × Mem abstract_sets)
+      → Contains (goals_left (goals_from program graph n m).left) goal
       → GoalIs program (node_number graph n) goal
   goals_of n m fits goal among =
       let place = expansion.places n fits.low in
       go (goals_from program graph n m).left (goals_are program kept.keeps (node_number graph n) m place.placed place.functions_differ fits.sized fits.along) among
     where
-      go : (o : Option Goals) → IfSome o (EachGoal (GoalIs program (node_number graph n))) → Contains (goals_left o) goal → GoalIs program (node_number graph n) goal
+      go : (o : Option Goals) → IfSome o (EachGoal (GoalIs program (node_number graph n)))
+          → Contains (goals_left o) goal → GoalIs program (node_number graph n) goal
       go None each among = no_member goal among
       go (Some goals) each among = each_member (GoalIs program (node_number graph n)) goals goal each among
 
@@ -82,7 +86,8 @@ module _ (program : NumberedProgram) (graph : GraphParts) (rows : List InputRow)
     pub is : GoalIs program (node_number graph n) (goal, u)
     pub number : goal_number graph goal ≡ k
 
-  goal_at : (n k : ℕ) (m u : Mem abstract_sets) → Fits program graph n m → Contains ((run_machine program graph rows).next n m) (k, u) → GoalAt n k m u
+  goal_at : (n k : ℕ) (m u : Mem abstract_sets) → Fits program graph n m
+      → Contains ((run_machine program graph rows).next n m) (k, u) → GoalAt n k m u
   goal_at n k m u fits among =
       let g = mapped (numbered_goal graph) (goals_left (goals_from program graph n m).left) (k, u) among in
       let is = goals_of n m fits g.0 g.1 in
@@ -92,18 +97,21 @@ module _ (program : NumberedProgram) (graph : GraphParts) (rows : List InputRow)
         number = ap (λ (p : ℕ × Mem abstract_sets). p.0) g.2;
       }
 
-  edge_to : (n k : ℕ) (goal : Goal) → n < length graph.nodes → Leads program (node_number graph n) goal → goal_number graph goal ≡ k → HasEdge graph n k
+  edge_to : (n k : ℕ) (goal : Goal) → n < length graph.nodes → Leads program (node_number graph n) goal
+      → goal_number graph goal ≡ k → HasEdge graph n k
   edge_to n k None low leads number = subst (HasEdge graph n) number (expansion.all_ends n low leads)
   edge_to n k (Some next) low leads number =
       let edge = expansion.all n next low leads in
       let is : number_of graph.nodes next ≡ edge.0 = ap (number_of graph.nodes) (sym edge.2) ∙ numbered program graph expansion edge.0 edge.1 in
       subst (HasEdge graph n) (sym is ∙ number) edge.3
 
-  next_fits : (n k : ℕ) (t u : Mem abstract_sets) → Fits program graph n t → Contains ((run_machine program graph rows).next n t) (k, u) → k ≢ length graph.nodes → Fits program graph k u
+  next_fits : (n k : ℕ) (t u : Mem abstract_sets) → Fits program graph n t
+      → Contains ((run_machine program graph rows).next n t) (k, u) → k ≢ length graph.nodes → Fits program graph k u
   next_fits n k t u fits among other =
       let g = goal_at n k t u fits among in go g.goal g.is g.number
     where
-      go : (goal : Goal) → GoalIs program (node_number graph n) (goal, u) → goal_number graph goal ≡ k → Fits program graph k u
+      go : (goal : Goal) → GoalIs program (node_number graph n) (goal, u) → goal_number graph goal ≡ k
+          → Fits program graph k u
       go None is number = absurd (other (sym number))
       go (Some next) is number =
           let edge = expansion.all n next fits.low is.0 in
@@ -117,68 +125,81 @@ module _ (program : NumberedProgram) (graph : GraphParts) (rows : List InputRow)
           }
 
   -- the memory stands for the history
-  stands_in : (Sharp : Type 0) (n : ℕ) (t : Mem abstract_sets) (c : List RunEvent) → Fits program graph n t → CoversHistory program t c → (Sharp → SharpFor program t c) → Stands Sharp (frames_of program) t c
+  stands_in : (Sharp : Type 0) (n : ℕ) (t : Mem abstract_sets) (c : List RunEvent) → Fits program graph n t
+      → CoversHistory program t c → (Sharp → SharpFor program t c) → Stands Sharp (frames_of program) t c
   stands_in Sharp n t c fits h sharp = record { sound = h.sound; sized = fits.sized; covers = h.covers; sharp = λ s. (sharp s).sharp }
 
-  says : (Sharp : Type 0) (n : ℕ) (t : Mem abstract_sets) (c : List RunEvent) → Fits program graph n t → Stands Sharp (frames_of program) t c
+  says : (Sharp : Type 0) (n : ℕ) (t : Mem abstract_sets) (c : List RunEvent) → Fits program graph n t
+      → Stands Sharp (frames_of program) t c
       → Says Sharp (frames_of program) (goals_from program graph n t) (step program (At (node_number graph n) c))
   says Sharp n t c fits stands = step_told Sharp program kept.keeps kept.promises.sizes (node_number graph n) t c (expansion.places n fits.low).placed stands
 
   -- a goal of a step, by its number
-  by_number : (n k : ℕ) (t u : Mem abstract_sets) (goal : Goal) (goals : Goals) → (goals_from program graph n t).left ≡ Some goals → Contains goals (goal, u) → goal_number graph goal ≡ k
+  by_number : (n k : ℕ) (t u : Mem abstract_sets) (goal : Goal) (goals : Goals)
+      → (goals_from program graph n t).left ≡ Some goals → Contains goals (goal, u) → goal_number graph goal ≡ k
       → Contains ((run_machine program graph rows).next n t) (k, u)
   by_number n k t u goal goals left among number =
       subst (λ (o : Option Goals). Contains (map (numbered_goal graph) (goals_left o)) (k, u)) (sym left)
       (subst (λ (j : ℕ). Contains (map (numbered_goal graph) goals) (j, u)) number (image (numbered_goal graph) goals (goal, u) among))
 
-  alone_by_number : (n k : ℕ) (t u : Mem abstract_sets) (goal : Goal) (goals : Goals) → (goals_from program graph n t).left ≡ Some goals → goals ≡ (goal, u) ∷ [] → goal_number graph goal ≡ k
+  alone_by_number : (n k : ℕ) (t u : Mem abstract_sets) (goal : Goal) (goals : Goals)
+      → (goals_from program graph n t).left ≡ Some goals → goals ≡ (goal, u) ∷ [] → goal_number graph goal ≡ k
       → (run_machine program graph rows).next n t ≡ (k, u) ∷ []
   alone_by_number n k t u goal goals left alone number =
       ap (λ (o : Option Goals). map (numbered_goal graph) (goals_left o)) left ∙ ap (map (numbered_goal graph)) alone ∙ ap (λ (j : ℕ). (j, u) ∷ []) number
 
-  goes_says : (Sharp : Type 0) (n k : ℕ) (t : Mem abstract_sets) (c d : List RunEvent) → Fits program graph n t → Stands Sharp (frames_of program) t c → GoesOn program graph n c k d
+  goes_says : (Sharp : Type 0) (n k : ℕ) (t : Mem abstract_sets) (c d : List RunEvent) → Fits program graph n t
+      → Stands Sharp (frames_of program) t c → GoesOn program graph n c k d
       → LeftTold Sharp (λ goals. GoesTold Sharp (frames_of program) goals (node_number graph k) d) (goals_from program graph n t)
   goes_says Sharp n k t c d fits stands goes = subst (Says Sharp (frames_of program) (goals_from program graph n t)) goes.steps (says Sharp n t c fits stands)
 
-  ends_says : (Sharp : Type 0) (n : ℕ) (t : Mem abstract_sets) (c : List RunEvent) → Fits program graph n t → Stands Sharp (frames_of program) t c → EndsAt program graph n c
+  ends_says : (Sharp : Type 0) (n : ℕ) (t : Mem abstract_sets) (c : List RunEvent) → Fits program graph n t
+      → Stands Sharp (frames_of program) t c → EndsAt program graph n c
       → LeftTold Sharp (EndTold Sharp) (goals_from program graph n t)
   ends_says Sharp n t c fits stands ends = subst (Says Sharp (frames_of program) (goals_from program graph n t)) ends.steps (says Sharp n t c fits stands)
 
-  fails_says : (Sharp : Type 0) (n : ℕ) (t : Mem abstract_sets) (c : List RunEvent) (kind : RunFault) → Fits program graph n t → Stands Sharp (frames_of program) t c → FailsAt program graph n c kind
+  fails_says : (Sharp : Type 0) (n : ℕ) (t : Mem abstract_sets) (c : List RunEvent) (kind : RunFault)
+      → Fits program graph n t → Stands Sharp (frames_of program) t c → FailsAt program graph n c kind
       → FaultTold Sharp (goals_from program graph n t) kind
   fails_says Sharp n t c fault fits stands fails = subst (Says Sharp (frames_of program) (goals_from program graph n t)) fails.steps (says Sharp n t c fits stands)
 
   node_at : (k : ℕ) → k < length graph.nodes → goal_number graph (Some (node_number graph k)) ≡ k
   node_at k low = numbered program graph expansion k low
 
-  no_sharp : (n : ℕ) (t : Mem abstract_sets) (c : List RunEvent) → Fits program graph n t → CoversHistory program t c → Stands ⊥ (frames_of program) t c
+  no_sharp : (n : ℕ) (t : Mem abstract_sets) (c : List RunEvent) → Fits program graph n t → CoversHistory program t c
+      → Stands ⊥ (frames_of program) t c
   no_sharp n t c fits h = stands_in ⊥ n t c fits h (λ s. absurd s)
 
-  in_sharp : (n : ℕ) (t : Mem abstract_sets) (c : List RunEvent) → Fits program graph n t → SharpFor program t c → Stands (Unit {0}) (frames_of program) t c
+  in_sharp : (n : ℕ) (t : Mem abstract_sets) (c : List RunEvent) → Fits program graph n t → SharpFor program t c
+      → Stands (Unit {0}) (frames_of program) t c
   in_sharp n t c fits h = stands_in (Unit {0}) n t c fits (sharp_covers program t c h) (λ s. h)
 
   -- ---- covering
 
-  next_covers : (n k : ℕ) (t : Mem abstract_sets) (c d : List RunEvent) → Fits program graph n t → CoversHistory program t c → GoesOn program graph n c k d
+  next_covers : (n k : ℕ) (t : Mem abstract_sets) (c d : List RunEvent) → Fits program graph n t
+      → CoversHistory program t c → GoesOn program graph n c k d
       → (u : Mem abstract_sets) × Contains ((run_machine program graph rows).next n t) (k, u) × CoversHistory program u d
   next_covers n k t c d fits h goes =
       let told = goes_says ⊥ n k t c d fits (no_sharp n t c fits h) goes in
       let one = told.holds in
       (one.m, by_number n k t one.m (Some (node_number graph k)) told.value told.is one.among (node_at k goes.to), record { sound = one.stands.sound; covers = one.stands.covers })
 
-  end_follows : (n : ℕ) (t : Mem abstract_sets) (c : List RunEvent) → Fits program graph n t → CoversHistory program t c → EndsAt program graph n c
+  end_follows : (n : ℕ) (t : Mem abstract_sets) (c : List RunEvent) → Fits program graph n t → CoversHistory program t c
+      → EndsAt program graph n c
       → (u : Mem abstract_sets) × Contains ((run_machine program graph rows).next n t) (length graph.nodes, u)
   end_follows n t c fits h ends =
       let told = ends_says ⊥ n t c fits (no_sharp n t c fits h) ends in
       (told.holds.m, by_number n (length graph.nodes) t told.holds.m None told.value told.is told.holds.among refl)
 
-  fault_told : (n : ℕ) (t : Mem abstract_sets) (c : List RunEvent) (kind : RunFault) → Fits program graph n t → CoversHistory program t c → FailsAt program graph n c kind
+  fault_told : (n : ℕ) (t : Mem abstract_sets) (c : List RunEvent) (kind : RunFault) → Fits program graph n t
+      → CoversHistory program t c → FailsAt program graph n c kind
       → has_fault ((run_machine program graph rows).faults n t) kind ≡ true
   fault_told n t c kind fits h fails = (fails_says ⊥ n t c kind fits (no_sharp n t c fits h) fails).told
 
   -- ---- sharpness
 
-  next_sharp : (n k : ℕ) (t : Mem abstract_sets) (c d : List RunEvent) → Fits program graph n t → SharpFor program t c → GoesOn program graph n c k d
+  next_sharp : (n k : ℕ) (t : Mem abstract_sets) (c d : List RunEvent) → Fits program graph n t → SharpFor program t c
+      → GoesOn program graph n c k d
       → (u : Mem abstract_sets) × ((run_machine program graph rows).next n t ≡ (k, u) ∷ []) × ((run_machine program graph rows).faults n t ≡ no_faults) × SharpFor program u d
   next_sharp n k t c d fits h goes =
       let told = goes_says (Unit {0}) n k t c d fits (in_sharp n t c fits h) goes in
@@ -189,7 +210,8 @@ module _ (program : NumberedProgram) (graph : GraphParts) (rows : List InputRow)
         record { sound = one.stands.sound; sharp = one.stands.sharp tt },
       )
 
-  end_sharp : (n : ℕ) (t : Mem abstract_sets) (c : List RunEvent) → Fits program graph n t → SharpFor program t c → EndsAt program graph n c
+  end_sharp : (n : ℕ) (t : Mem abstract_sets) (c : List RunEvent) → Fits program graph n t → SharpFor program t c
+      → EndsAt program graph n c
       → (u : Mem abstract_sets) × ((run_machine program graph rows).next n t ≡ (length graph.nodes, u) ∷ []) × ((run_machine program graph rows).faults n t ≡ no_faults)
   end_sharp n t c fits h ends =
       let told = ends_says (Unit {0}) n t c fits (in_sharp n t c fits h) ends in (
@@ -198,7 +220,8 @@ module _ (program : NumberedProgram) (graph : GraphParts) (rows : List InputRow)
         none_is_empty (goals_from program graph n t).faults (told.none tt),
       )
 
-  fault_sharp : (n : ℕ) (t : Mem abstract_sets) (c : List RunEvent) (kind : RunFault) → Fits program graph n t → SharpFor program t c → FailsAt program graph n c kind
+  fault_sharp : (n : ℕ) (t : Mem abstract_sets) (c : List RunEvent) (kind : RunFault) → Fits program graph n t
+      → SharpFor program t c → FailsAt program graph n c kind
       → ((run_machine program graph rows).next n t ≡ []) × ((run_machine program graph rows).faults n t ≡ with_fault no_faults kind)
   fault_sharp n t c kind fits h fails =
       let told = fails_says (Unit {0}) n t c kind fits (in_sharp n t c fits h) fails in (
@@ -208,7 +231,8 @@ module _ (program : NumberedProgram) (graph : GraphParts) (rows : List InputRow)
 
   -- ---- starts
 
-  start_stands : (Sharp : Type 0) (c : List RunEvent) (start : IsStart program rows (At first_node c)) → (Sharp → OnlyInputs rows start.numbers) → Stands Sharp (frames_of program) (first_memory program rows) c
+  start_stands : (Sharp : Type 0) (c : List RunEvent) (start : IsStart program rows (At first_node c))
+      → (Sharp → OnlyInputs rows start.numbers) → Stands Sharp (frames_of program) (first_memory program rows) c
   start_stands Sharp c start only =
       subst (Stands Sharp (frames_of program) (first_memory program rows)) (same_start c (start_history program rows (words_of rows start.numbers)) start.starts)
       (first_told Sharp program kept.keeps rows start.numbers kept.inputs start.within only)
@@ -216,10 +240,13 @@ module _ (program : NumberedProgram) (graph : GraphParts) (rows : List InputRow)
       same_start : (a b : List RunEvent) → At first_node a ≡ At first_node b → b ≡ a
       same_start a b e = cc
 
-  first_covers : (c : List RunEvent) → IsStart program rows (At first_node c) → CoversHistory program (first_memory program rows) c
+  first_covers : (c : List RunEvent) → IsStart program rows (At first_node c)
+      → CoversHistory program (first_memory program rows) c
   first_covers c start = let stands = start_stands ⊥ c start (λ s. absurd s) in record { sound = stands.sound; covers = stands.covers }
 
-  first_sharp : (c : List RunEvent) → IsStart program rows (At first_node c) → ((d : List RunEvent) → IsStart program rows (At first_node d) → d ≡ c) → SharpFor program (first_memory program rows) c
+  first_sharp : (c : List RunEvent) → IsStart program rows (At first_node c)
+      → ((d : List RunEvent) → IsStart program rows (At first_node d) → d ≡ c)
+      → SharpFor program (first_memory program rows) c
   first_sharp c start alone =
       let own = start_history program rows (words_of rows start.numbers) in
       let only : OnlyInputs rows start.numbers = only_inputs program rows start.numbers kept.inputs start.within (λ others within.
@@ -261,11 +288,13 @@ module _ (program : NumberedProgram) (graph : GraphParts) (rows : List InputRow)
     runs = λ g. truth (t.runs g) (u.runs g) (λ e. (b.along (Some g)).1 ((a.along (Some g)).0 e)) (λ e. (a.along (Some g)).1 ((b.along (Some g)).0 e));
   }
 
-  joined_fits : (n : ℕ) (t u : Mem abstract_sets) → Fits program graph n t → Fits program graph n u → Fits program graph n (both abstract_sets t u)
+  joined_fits : (n : ℕ) (t u : Mem abstract_sets) → Fits program graph n t → Fits program graph n u
+      → Fits program graph n (both abstract_sets t u)
   joined_fits n t u a b = record { low = a.low; sized = join_sized abstract_sets abstract_is_sets t u a.sized b.sized; along = a.along }
 
   -- the laws of a stepper
-  pub is_machine : (order : Order (Mem abstract_sets)) → SuitsMemories program order → IsMachine (Mem abstract_sets) (List RunEvent) order (run_machine program graph rows)
+  pub is_machine : (order : Order (Mem abstract_sets)) → SuitsMemories program order
+      → IsMachine (Mem abstract_sets) (List RunEvent) order (run_machine program graph rows)
   is_machine order suits = record {
     first_fits = first_fits;
     next_fits = next_fits;
@@ -284,7 +313,8 @@ module _ (program : NumberedProgram) (graph : GraphParts) (rows : List InputRow)
   }
 
   -- each step, abstract or concrete, lies along an edge of an outline of the graph
-  pub is_along : (o : Shape) → o.edges ≡ graph.edges → length o.own ≡ length graph.nodes → IsAlong (Mem abstract_sets) (List RunEvent) o (run_machine program graph rows)
+  pub is_along : (o : Shape) → o.edges ≡ graph.edges → length o.own ≡ length graph.nodes
+      → IsAlong (Mem abstract_sets) (List RunEvent) o (run_machine program graph rows)
   is_along o edges count = record {
     exit_is = sym count;
     next_along = λ n k t u fits among.

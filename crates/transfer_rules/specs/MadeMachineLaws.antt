@@ -13,14 +13,16 @@ use Rattle.domain_core.specs.Outlines.{Shape}
 use Rattle.transfer_rules.specs.MadeMachines.{made_at, by_made, IsMade, MadeOf}
 
 -- what the order of such values keeps
-pub record IsOrdered {V T C : Type 0} (value : V → T) (Own : V → Type 0) (m : Machine T C) (base : Order T) (order : Order V) : Type 0 where
+pub record IsOrdered {V T C : Type 0} (value : V → T) (Own : V → Type 0) (m : Machine T C) (base : Order T)
+    (order : Order V) : Type 0 where
   pub alike : (a b : V) → Own a → Own b → base.alike (value a) (value b) → order.alike a b
   pub above : (a b : V) (c : C) → order.under a b → m.covers (value a) c → m.covers (value b) c
   pub joined : (a b : V) → order.alike a b → value (order.joined a b) ≡ base.joined (value a) (value b)
   pub joined_own : (a b : V) → Own a → order.alike a b → Own (order.joined a b)
 
 module _ {V T C : Type 0} (value : V → T) (made : T → V) (Own : V → Type 0) (Inside : C → Type 0) (m : Machine T C) where
-  made_of : (n k : ℕ) (v u : V) → Contains ((by_made value made Own Inside m).next n v) (k, u) → MadeOf {V = V} {T = T} {C = C} value made Own Inside m n k v u
+  made_of : (n k : ℕ) (v u : V) → Contains ((by_made value made Own Inside m).next n v) (k, u)
+      → MadeOf {V = V} {T = T} {C = C} value made Own Inside m n k v u
   made_of n k v u among =
       let g = mapped (made_at made) (m.next n (value v)) (k, u) among in
       record {
@@ -33,7 +35,8 @@ module _ {V T C : Type 0} (value : V → T) (made : T → V) (Own : V → Type 0
     alike : (n : ℕ) (a b : V) → Own a × m.fits n (value a) → Own b × m.fits n (value b) → order.alike a b
     alike n a b first second = ordered.alike a b first.0 second.0 (laws.fits_alike n (value a) (value b) first.1 second.1)
 
-    next_covers : (n k : ℕ) (v : V) (c d : C) → Own v × m.fits n (value v) → m.covers (value v) c × Inside c → m.system.goes n c k d
+    next_covers : (n k : ℕ) (v : V) (c d : C) → Own v × m.fits n (value v) → m.covers (value v) c × Inside c
+        → m.system.goes n c k d
         → (u : V) × Contains ((by_made value made Own Inside m).next n v) (k, u) × (m.covers (value u) d × Inside d)
     next_covers n k v c d fits covers goes =
         let next = laws.next_covers n k (value v) c d fits.1 covers.0 goes in
@@ -42,7 +45,8 @@ module _ {V T C : Type 0} (value : V → T) (made : T → V) (Own : V → Type 0
         (made next.0, image (made_at made) (m.next n (value v)) (k, next.0) next.1, (is.covers k next.0 d there inside next.2, inside))
 
     -- the one next point of a sharp value
-    next_sharp : (n k : ℕ) (v : V) (c d : C) → Own v × m.fits n (value v) → m.sharp (value v) c × Inside c → m.system.goes n c k d
+    next_sharp : (n k : ℕ) (v : V) (c d : C) → Own v × m.fits n (value v) → m.sharp (value v) c × Inside c
+        → m.system.goes n c k d
         → (u : V) × ((by_made value made Own Inside m).next n v ≡ (k, u) ∷ []) × (m.faults n (value v) ≡ no_faults) × (m.sharp (value u) d × Inside d)
     next_sharp n k v c d fits sharp goes =
         let next = laws.next_sharp n k (value v) c d fits.1 sharp.0 goes in

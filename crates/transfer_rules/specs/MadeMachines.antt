@@ -25,7 +25,8 @@ by_made value made Own Inside m = record {
 }
 
 -- what making keeps of values that fit a node
-pub record IsMade {V T C : Type 0} (value : V → T) (made : T → V) (Own : V → Type 0) (Inside : C → Type 0) (m : Machine T C) : Type 0 where
+pub record IsMade {V T C : Type 0} (value : V → T) (made : T → V) (Own : V → Type 0) (Inside : C → Type 0)
+    (m : Machine T C) : Type 0 where
   pub own : (n : ℕ) (t : T) → m.fits n t → Own (made t)
   pub fits : (n : ℕ) (t : T) → m.fits n t → m.fits n (value (made t))
   pub covers : (n : ℕ) (t : T) (c : C) → m.fits n t → Inside c → m.covers t c → m.covers (value (made t)) c

@@ -55,7 +55,8 @@ found (first ∷ nodes) (suc n) other low = by_test (is_same_node first (slice_i
     (λ e. let rest = found nodes n other (omega arith) in rw e (let small = rest.0 in omega (arith, small), rest.1))
 
 -- a node of a graph without repeated nodes has its number
-pub numbered : (program : NumberedProgram) (graph : GraphParts) → IsExpansion program graph → (n : ℕ) → n < length graph.nodes → number_of graph.nodes (node_number graph n) ≡ n
+pub numbered : (program : NumberedProgram) (graph : GraphParts) → IsExpansion program graph → (n : ℕ)
+    → n < length graph.nodes → number_of graph.nodes (node_number graph n) ≡ n
 numbered program graph expansion n low =
     let at = found graph.nodes n first_node low in
     expansion.apart (number_of graph.nodes (node_number graph n)) n at.0 low at.1

@@ -38,7 +38,8 @@ use Rattle.transfer_rules.specs.PartMachines.{IsOwn, KeepsParts, part_machine}
 -- ---- what is made of a memory
 
 -- what is made of it stands for the memory without what lies outside the frames
-made_seen : (checked : CheckedParts) (m : Mem abstract_sets) → memory_in (made checked m) ≡ clipped (functions_of checked) (rows_of checked) m
+made_seen : (checked : CheckedParts) (m : Mem abstract_sets)
+    → memory_in (made checked m) ≡ clipped (functions_of checked) (rows_of checked) m
 made_seen checked m =
     ap memory_in (sym (made_clipped checked m))
     ∙ memory_is checked (clipped (functions_of checked) (rows_of checked) m) (clip_within (functions_of checked) (rows_of checked) m)
@@ -51,7 +52,8 @@ made_own checked m sized = record {
 }
 
 -- each function on a call path is one of the program
-functions_low : (program : NumberedProgram) → IsKept program → (path : List ℕ) → IsCallPath program path → (f : ℕ) → Contains (functions_on program path) f → f < length program.funcs
+functions_low : (program : NumberedProgram) → IsKept program → (path : List ℕ) → IsCallPath program path → (f : ℕ)
+    → Contains (functions_on program path) f → f < length program.funcs
 functions_low program keeps [] calls f among = first_or_further program.root [] f among
     (λ same. subst (λ (g : ℕ). g < length program.funcs) same keeps.root)
     (λ none. no_member f none)
@@ -64,11 +66,13 @@ module _ (checked : CheckedParts) (graph : GraphParts) (rows : List InputRow) (k
   expansion = kept.machine.promises.points.expands (seen checked) graph kept.machine.keeps kept.machine.is
 
   -- functions that run in a memory that fits a node are those of the program
-  runs_low : (n : ℕ) (m : Mem abstract_sets) → Fits (seen checked) graph n m → (f : ℕ) → m.runs f ≡ true → f < functions_of checked
+  runs_low : (n : ℕ) (m : Mem abstract_sets) → Fits (seen checked) graph n m → (f : ℕ) → m.runs f ≡ true
+      → f < functions_of checked
   runs_low n m fits f on =
       functions_low (seen checked) kept.machine.keeps (node_number graph n).path (expansion.places n fits.low).placed.path f ((fits.along (Some f)).0 on)
 
-  clip_fits : (n : ℕ) (m : Mem abstract_sets) → Fits (seen checked) graph n m → Fits (seen checked) graph n (clipped (functions_of checked) (rows_of checked) m)
+  clip_fits : (n : ℕ) (m : Mem abstract_sets) → Fits (seen checked) graph n m
+      → Fits (seen checked) graph n (clipped (functions_of checked) (rows_of checked) m)
   clip_fits n m fits = record {
     low = fits.low;
     sized = clip_sized (functions_of checked) (rows_of checked) m fits.sized;
@@ -127,7 +131,8 @@ module _ (checked : CheckedParts) (graph : GraphParts) (rows : List InputRow) (k
       }
 
   -- and its steps lie along the edges of an outline of the graph
-  pub is_part_along : (o : Shape) → o.edges ≡ graph.edges → length o.own ≡ length graph.nodes → IsAlong MemoryParts (List RunEvent) o (part_machine checked graph rows)
+  pub is_part_along : (o : Shape) → o.edges ≡ graph.edges → length o.own ≡ length graph.nodes
+      → IsAlong MemoryParts (List RunEvent) o (part_machine checked graph rows)
   is_part_along o edges count =
       let along = made_is_along memory_in (made checked) (IsOwn checked) (IsInside (rows_of checked)) (run_machine (seen checked) graph rows) o
       (is_along (seen checked) graph rows kept.machine o edges count) in

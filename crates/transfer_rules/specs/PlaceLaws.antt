@@ -56,34 +56,41 @@ gives_word : (answer : Option Stride) (v : ℕ) → Gives stride_sets answer v �
 gives_word None v g = let none : None ≡ Some g.0 = g.1 in cc
 gives_word (Some w) v g = subst (λ (d : Stride). CoversWord d v) (sym (same_Some w g.0 g.1)) g.2
 
-gives_only : (answer : Option Stride) (v : ℕ) → GivesOnly stride_sets answer v → IsOnly stride_sets (operand_of answer) v
+gives_only : (answer : Option Stride) (v : ℕ) → GivesOnly stride_sets answer v
+    → IsOnly stride_sets (operand_of answer) v
 gives_only None v g = let none : None ≡ Some g.0 = g.1 in cc
 gives_only (Some w) v g = subst (λ (d : Stride). IsOnly stride_sets d v) (sym (same_Some w g.0 g.1)) g.2
 
-gives_size : (answer : Option Stride) (v s : ℕ) → Gives stride_sets answer v → GivesSize stride_sets answer s → IsOfSize stride_sets s (operand_of answer)
+gives_size : (answer : Option Stride) (v s : ℕ) → Gives stride_sets answer v → GivesSize stride_sets answer s
+    → IsOfSize stride_sets s (operand_of answer)
 gives_size None v s g sized = let none : None ≡ Some g.0 = g.1 in cc
 gives_size (Some w) v s g sized = sized w refl
 
 one_kept : (a : Stride) → IsStride a → AreKept stride_sets (a ∷ [])
 one_kept a of_a e c = first_or_further a [] e c (λ same. subst IsStride same of_a) (λ none. no_member e none)
 
-cut_typed : (own size : ℕ) → IsWordSize own → IsWordSize size → size ≤ own → IsSome (result_size Trunc (own ∷ size ∷ []))
+cut_typed : (own size : ℕ) → IsWordSize own → IsWordSize size → size ≤ own
+    → IsSome (result_size Trunc (own ∷ size ∷ []))
 cut_typed own size of_own is most = rw (le-leb 1 own of_own.least, le-leb own 64 of_own.most, le-leb 1 size is.least, le-leb size 64 is.most, le-leb size own most) refl
 
-cut_applied : (x : Stride) (size : ℕ) → IsStride x → IsWordSize size → size ≤ x.size → IsApplied stride_sets Trunc (x.size ∷ size ∷ []) (x ∷ []) (applied Trunc (x.size ∷ size ∷ []) (x ∷ []))
+cut_applied : (x : Stride) (size : ℕ) → IsStride x → IsWordSize size → size ≤ x.size
+    → IsApplied stride_sets Trunc (x.size ∷ size ∷ []) (x ∷ []) (applied Trunc (x.size ∷ size ∷ []) (x ∷ []))
 cut_applied x size of_x is most = stride_is_sets.applied Trunc (x.size ∷ size ∷ []) (x ∷ []) (cut_typed x.size size of_x.size is most) (refl, tt) (one_kept x of_x)
 
-pub cut_sized : (x : Stride) (size : ℕ) → IsStride x → IsWordSize size → size ≤ x.size → IsOfSize stride_sets size (cut size x)
+pub cut_sized : (x : Stride) (size : ℕ) → IsStride x → IsWordSize size → size ≤ x.size
+    → IsOfSize stride_sets size (cut size x)
 cut_sized x size of_x is most =
     let r = cut_applied x size of_x is most in
     let t = some_word x of_x in
     gives_size (applied Trunc (x.size ∷ size ∷ []) (x ∷ [])).value (value Trunc (x.size ∷ size ∷ []) (t.0 ∷ [])) size (r.covering (t.0 ∷ []) (t.1, tt) (λ z. false≢true z.0)) r.size
 
-pub cut_covers : (x : Stride) (size w : ℕ) → IsStride x → IsWordSize size → size ≤ x.size → CoversWord x w → CoversWord (cut size x) (word size (pos w))
+pub cut_covers : (x : Stride) (size w : ℕ) → IsStride x → IsWordSize size → size ≤ x.size → CoversWord x w
+    → CoversWord (cut size x) (word size (pos w))
 cut_covers x size w of_x is most covers =
     gives_word (applied Trunc (x.size ∷ size ∷ []) (x ∷ [])).value (value Trunc (x.size ∷ size ∷ []) (w ∷ [])) ((cut_applied x size of_x is most).covering (w ∷ []) (covers, tt) (λ z. false≢true z.0))
 
-pub cut_only : (x : Stride) (size w : ℕ) → IsStride x → IsWordSize size → size ≤ x.size → IsOnly stride_sets x w → IsOnly stride_sets (cut size x) (word size (pos w))
+pub cut_only : (x : Stride) (size w : ℕ) → IsStride x → IsWordSize size → size ≤ x.size → IsOnly stride_sets x w
+    → IsOnly stride_sets (cut size x) (word size (pos w))
 cut_only x size w of_x is most only =
     gives_only (applied Trunc (x.size ∷ size ∷ []) (x ∷ [])).value (value Trunc (x.size ∷ size ∷ []) (w ∷ [])) ((cut_applied x size of_x is most).sharp (w ∷ []) (only, tt) (λ z. false≢true z.0)).0
 
@@ -117,12 +124,14 @@ module _ (place : Place) (size : ℕ) (fits : PlaceFits place size) (words : Str
       (λ e. rw e (cut_sized words place.size of_words.kept (cell_is_word place.size fits.cell) narrow))
       (λ e. rw e (record { kept = of_words.kept; size = of_words.size ∙ sym (fits.same e) }))
 
-  for_cell_covers : (rows : List FrameShape) (history : List RunEvent) (w : ℕ) (reads : PlaceReads rows history place w) → CoversWord words w → CoversWord (for_cell place words) reads.bits
+  for_cell_covers : (rows : List FrameShape) (history : List RunEvent) (w : ℕ) (reads : PlaceReads rows history place w)
+      → CoversWord words w → CoversWord (for_cell place words) reads.bits
   for_cell_covers rows history w reads covers = by_test place.extended
       (λ e. rw e (subst (CoversWord (cut place.size words)) (reads.part e) (cut_covers words place.size w of_words.kept (cell_is_word place.size fits.cell) narrow covers)))
       (λ e. rw e (subst (CoversWord words) (reads.whole e) covers))
 
-  for_cell_only : (rows : List FrameShape) (history : List RunEvent) (w : ℕ) (reads : PlaceReads rows history place w) → IsOnly stride_sets words w → IsOnly stride_sets (for_cell place words) reads.bits
+  for_cell_only : (rows : List FrameShape) (history : List RunEvent) (w : ℕ) (reads : PlaceReads rows history place w)
+      → IsOnly stride_sets words w → IsOnly stride_sets (for_cell place words) reads.bits
   for_cell_only rows history w reads only = by_test place.extended
       (λ e. rw e (subst (IsOnly stride_sets (cut place.size words)) (reads.part e) (cut_only words place.size w of_words.kept (cell_is_word place.size fits.cell) narrow only)))
       (λ e. rw e (subst (IsOnly stride_sets words) (reads.whole e) only))
@@ -138,7 +147,8 @@ module _ (place : Place) (size : ℕ) (fits : PlaceFits place size) (words : Str
   }
 
   -- and the memory stands for the history
-  pub pin_told : (Sharp : Type 0) (rows : List FrameShape) (m : Mem abstract_sets) (history : List RunEvent) (w : ℕ) → Stands Sharp rows m history → (reads : PlaceReads rows history place w)
+  pub pin_told : (Sharp : Type 0) (rows : List FrameShape) (m : Mem abstract_sets) (history : List RunEvent) (w : ℕ)
+      → Stands Sharp rows m history → (reads : PlaceReads rows history place w)
       → CoversWord words w → (Sharp → IsOnly stride_sets words w) → Stands Sharp rows (pinned_to m place words) history
   pin_told Sharp rows m history w stands reads covers only =
       let set = alone (Words (for_cell place words)) in
@@ -167,11 +177,13 @@ pub record ExtensionSizes (op : Op) (sizes : List ℕ) (size : ℕ) : Type 0 whe
   pub most : slice_index sizes 0 ≤ size
   pub result_is : size_of_result op sizes ≡ size
 
-some_row : (test : Bool) (found size : ℕ) → (if test then Some found else None) ≡ (let o : Option ℕ = Some size in o) → test ≡ true
+some_row : (test : Bool) (found size : ℕ) → (if test then Some found else None) ≡ (let o : Option ℕ = Some size in o)
+    → test ≡ true
 some_row true found size is = refl
 some_row false found size is = let none : None ≡ (let o : Option ℕ = Some size in o) = is in absurd (none-some size none)
 
-pub ext_sizes : (op : Op) (sizes : List ℕ) (size : ℕ) → is_extension op ≡ true → result_size op sizes ≡ Some size → ExtensionSizes op sizes size
+pub ext_sizes : (op : Op) (sizes : List ℕ) (size : ℕ) → is_extension op ≡ true → result_size op sizes ≡ Some size
+    → ExtensionSizes op sizes size
 ext_sizes op sizes size e is =
     let layout = ext_layout op e in
     let result = result_has op sizes size is in
@@ -193,18 +205,21 @@ lesser_power n w most = record { times = pos (2 ^ (w - n)); is = ap pos (ap (λ 
 word_back : (m n : ℕ) (z : ℤ) → m ≤ n → word m (pos (word n z)) ≡ word m z
 word_back m n z most = sym (same_word m z (pos (word n z)) (divides_through (full m) (full n) (z -ℤ pos (word n z)) (lesser_power m n most) (from_word n z)))
 
-pub ext_back : (op : Op) (sizes : List ℕ) (x : ℕ) → is_extension op ≡ true → slice_index sizes 0 ≤ size_of_result op sizes → x < 2 ^ slice_index sizes 0
+pub ext_back : (op : Op) (sizes : List ℕ) (x : ℕ) → is_extension op ≡ true
+    → slice_index sizes 0 ≤ size_of_result op sizes → x < 2 ^ slice_index sizes 0
     → word (slice_index sizes 0) (pos (value op sizes (x ∷ 0 ∷ 0 ∷ []))) ≡ x
 ext_back SExt sizes x e most small = word_back (slice_index sizes 0) (slice_index sizes 1) (signed (slice_index sizes 0) x) most ∙ word_signed (slice_index sizes 0) x small
 ext_back ZExt sizes x e most small = word_back (slice_index sizes 0) (slice_index sizes 1) (pos x) most ∙ word_itself (slice_index sizes 0) x small
 ext_back _ sizes x e most small = absurd (false≢true e)
 
-pub ext_outcome : (op : Op) (sizes : List ℕ) (own x : ℕ) → is_extension op ≡ true → outcome op sizes (Int own x ∷ []) ≡ Ok (Int (size_of_result op sizes) (value op sizes (x ∷ 0 ∷ 0 ∷ [])))
+pub ext_outcome : (op : Op) (sizes : List ℕ) (own x : ℕ) → is_extension op ≡ true
+    → outcome op sizes (Int own x ∷ []) ≡ Ok (Int (size_of_result op sizes) (value op sizes (x ∷ 0 ∷ 0 ∷ [])))
 ext_outcome SExt sizes own x e = refl
 ext_outcome ZExt sizes own x e = refl
 ext_outcome _ sizes own x e = absurd (false≢true e)
 
-pub ext_pointer : (op : Op) (sizes : List ℕ) (frame offset : ℕ) → is_extension op ≡ true → outcome op sizes (Ptr frame offset ∷ []) ≡ Err Kind
+pub ext_pointer : (op : Op) (sizes : List ℕ) (frame offset : ℕ) → is_extension op ≡ true
+    → outcome op sizes (Ptr frame offset ∷ []) ≡ Err Kind
 ext_pointer SExt sizes frame offset e = refl
 ext_pointer ZExt sizes frame offset e = refl
 ext_pointer _ sizes frame offset e = absurd (false≢true e)

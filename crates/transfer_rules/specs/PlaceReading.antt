@@ -16,7 +16,8 @@ use Rattle.transfer_rules.specs.Standing.{Stands}
 -- ---- sizes
 
 -- the operand of an extension that is a place: a load
-pub record LoadOperand (rows : List FrameShape) (m : Mem abstract_sets) (es : NumberedExpressions) (place : Place) : Type 0 where
+pub record LoadOperand (rows : List FrameShape) (m : Mem abstract_sets) (es : NumberedExpressions)
+    (place : Place) : Type 0 where
   pub bits : ℕ
   pub at : NumberedExpression
   pub is : es ≡ With (Load bits at) Empty
@@ -25,6 +26,7 @@ pub record LoadOperand (rows : List FrameShape) (m : Mem abstract_sets) (es : Nu
 -- ---- cells
 
 -- the cell of an address gives what a load through it gives
-pub record CellReads (rows : List FrameShape) (history : List RunEvent) (cell : ℕ × ℕ) (size : ℕ) (r : Result Value RunFault) : Type 0 where
+pub record CellReads (rows : List FrameShape) (history : List RunEvent) (cell : ℕ × ℕ) (size : ℕ)
+    (r : Result Value RunFault) : Type 0 where
   pub p : IsPlaced rows history cell.0 cell.1 size
   pub gives : cell_in (origin p.row.owner cell.0 history) cell.1 size ≡ r

@@ -54,7 +54,8 @@ load_parts rows m extended bits at place e =
     let i = some_image (λ (cell : ℕ × ℕ). record { cell = cell; size = bits; extended = extended }) (loaded_cell rows m bits (value_at rows m at).left) place e in
     (sym (ap (λ (p : Place). p.size) i.2), sym (ap (λ (p : Place). p.extended) i.2))
 
-load_operand : (rows : List FrameShape) (m : Mem abstract_sets) (es : NumberedExpressions) (place : Place) → operand_place rows m es ≡ Some place → LoadOperand rows m es place
+load_operand : (rows : List FrameShape) (m : Mem abstract_sets) (es : NumberedExpressions) (place : Place)
+    → operand_place rows m es ≡ Some place → LoadOperand rows m es place
 load_operand rows m Empty place e = none_is place e
 load_operand rows m (With (Number num) Empty) place e = none_is place e
 load_operand rows m (With (Address frame offset) Empty) place e = none_is place e
@@ -63,11 +64,13 @@ load_operand rows m (With (Apply op sizes es) Empty) place e = none_is place e
 load_operand rows m (With e (With other es)) place is = none_is place is
 
 -- the size of the operand
-operand_has : (table : List FrameRow) (k m : ℕ) (sizes : List ℕ) (e : NumberedExpression) → sizes ≡ m ∷ [] → HaveSizes table k sizes (With e Empty) → HasSize table k m e
+operand_has : (table : List FrameRow) (k m : ℕ) (sizes : List ℕ) (e : NumberedExpression) → sizes ≡ m ∷ []
+    → HaveSizes table k sizes (With e Empty) → HasSize table k m e
 operand_has table k m sizes e are have = (subst (λ (s : List ℕ). HaveSizes table k s (With e Empty)) are have).0
 
 module _ (table : List FrameRow) (k : ℕ) (rows : List FrameShape) (m : Mem abstract_sets) where
-  ext_fits : (op : Op) (sizes : List ℕ) (es : NumberedExpressions) (size : ℕ) (place : Place) → is_extension op ≡ true → result_size op sizes ≡ Some size → HaveSizes table k (operand_sizes op sizes) es
+  ext_fits : (op : Op) (sizes : List ℕ) (es : NumberedExpressions) (size : ℕ) (place : Place) → is_extension op ≡ true
+      → result_size op sizes ≡ Some size → HaveSizes table k (operand_sizes op sizes) es
       → operand_place rows m es ≡ Some place → PlaceFits place size
   ext_fits op sizes es size place e typed have is =
       let o = load_operand rows m es place is in
@@ -84,7 +87,8 @@ module _ (table : List FrameRow) (k : ℕ) (rows : List FrameShape) (m : Mem abs
       }
 
   -- a place fits the size of the expression
-  pub place_fits : (e : NumberedExpression) (size : ℕ) (place : Place) → HasSize table k size e → place_of rows m e ≡ Some place → PlaceFits place size
+  pub place_fits : (e : NumberedExpression) (size : ℕ) (place : Place) → HasSize table k size e
+      → place_of rows m e ≡ Some place → PlaceFits place size
   place_fits (Number num) size place has is = none_is place is
   place_fits (Address frame offset) size place has is = none_is place is
   place_fits (Load bits at) size place has is =
@@ -98,10 +102,12 @@ module _ (table : List FrameRow) (k : ℕ) (rows : List FrameShape) (m : Mem abs
 -- ---- cells
 
 module _ (rows : List FrameShape) (runs : ℕ → Bool) (history : List RunEvent) (active : (owner : Option ℕ) → is_active owner history ≡ is_on runs owner) (size : ℕ) where
-  tested_reads : (frame offset : ℕ) (cell : ℕ × ℕ) → result_ok (tested rows runs (Ptr frame offset) size) ≡ Some cell → CellReads rows history cell size (load rows history (Ptr frame offset) size)
+  tested_reads : (frame offset : ℕ) (cell : ℕ × ℕ) → result_ok (tested rows runs (Ptr frame offset) size) ≡ Some cell
+      → CellReads rows history cell size (load rows history (Ptr frame offset) size)
   tested_reads frame offset cell e = go (slice_get rows frame) refl e
     where
-      go : (found : Option FrameShape) → slice_get rows frame ≡ found → result_ok (tested_in found runs frame offset size) ≡ Some cell
+      go : (found : Option FrameShape) → slice_get rows frame ≡ found
+          → result_ok (tested_in found runs frame offset size) ≡ Some cell
           → CellReads rows history cell size (loaded_run history size (address_in found history frame offset size))
       go None found e = none_is cell e
       go (Some row) found e = by_test (is_on runs row.owner)
@@ -115,7 +121,8 @@ module _ (rows : List FrameShape) (runs : ℕ → Bool) (history : List RunEvent
           (λ past. none_is cell (rw (on, past) at e)))
           (λ off. none_is cell (rw off at e))
 
-  cell_reads : (words : Option Stride) (places : List (ℕ × Stride)) (cell : ℕ × ℕ) (address : Value) → cell_of rows runs size words places ≡ Some cell
+  cell_reads : (words : Option Stride) (places : List (ℕ × Stride)) (cell : ℕ × ℕ) (address : Value)
+      → cell_of rows runs size words places ≡ Some cell
       → Covers (record { words = words; places = places }) address → CellReads rows history cell size (load rows history address size)
   cell_reads (Some words) places cell address e covers = none_is cell e
   cell_reads None [] cell address e covers = none_is cell e
@@ -136,11 +143,13 @@ module _ (rows : List FrameShape) (runs : ℕ → Bool) (history : List RunEvent
 -- ---- loads and extended loads
 
 module _ (Sharp : Type 0) (rows : List FrameShape) (m : Mem abstract_sets) (history : List RunEvent) (stands : Stands Sharp rows m history) (table : List FrameRow) (k : ℕ) (sizes_are : ValueHasSize) where
-  where_is : (words : Option Stride) (cell : Option (ℕ × ℕ)) (c : ℕ × ℕ) → cell_where words cell ≡ Some c → cell ≡ Some c
+  where_is : (words : Option Stride) (cell : Option (ℕ × ℕ)) (c : ℕ × ℕ) → cell_where words cell ≡ Some c
+      → cell ≡ Some c
   where_is None cell c e = none_is c e
   where_is (Some words) cell c e = e
 
-  load_reads : (extended : Bool) (bits : ℕ) (at : NumberedExpression) (place : Place) (x : Value) → HasSize table k 32 at → load_place rows m extended bits at ≡ Some place
+  load_reads : (extended : Bool) (bits : ℕ) (at : NumberedExpression) (place : Place) (x : Value)
+      → HasSize table k 32 at → load_place rows m extended bits at ≡ Some place
       → value_of rows history (Load bits at) ≡ Ok x → CellReads rows history place.cell bits (Ok x)
   load_reads extended bits at place x has e is =
       let i = some_image (λ (cell : ℕ × ℕ). record { cell = cell; size = bits; extended = extended }) (loaded_cell rows m bits (value_at rows m at).left) place e in
@@ -148,7 +157,8 @@ module _ (Sharp : Type 0) (rows : List FrameShape) (m : Mem abstract_sets) (hist
       subst (λ (c : ℕ × ℕ). CellReads rows history c bits (Ok x)) cell_is
       (go (value_of rows history at) (value_told Sharp rows m history stands table k at 32 has) i.0 i.1 is)
     where
-      go : (r : Result Value RunFault) → Answers Sharp (ValueTold Sharp) (value_at rows m at) r → (cell : ℕ × ℕ) → loaded_cell rows m bits (value_at rows m at).left ≡ Some cell
+      go : (r : Result Value RunFault) → Answers Sharp (ValueTold Sharp) (value_at rows m at) r → (cell : ℕ × ℕ)
+          → loaded_cell rows m bits (value_at rows m at).left ≡ Some cell
           → load_from rows history bits r ≡ Ok x → CellReads rows history cell bits (Ok x)
       go (Err fault) told cell e is = cc
       go (Ok address) told cell e is =
@@ -162,12 +172,14 @@ module _ (Sharp : Type 0) (rows : List FrameShape) (m : Mem abstract_sets) (hist
   same_word_out : (s n t w : ℕ) → (let r : Result Value RunFault = Ok (Int s n) in r) ≡ Ok (Int t w) → n ≡ w
   same_word_out s n t w e = cc
 
-  ext_reads : (op : Op) (sizes : List ℕ) (bits : ℕ) (at : NumberedExpression) (size : ℕ) (place : Place) (own w : ℕ) → is_extension op ≡ true → ExtensionSizes op sizes size
+  ext_reads : (op : Op) (sizes : List ℕ) (bits : ℕ) (at : NumberedExpression) (size : ℕ) (place : Place) (own w : ℕ)
+      → is_extension op ≡ true → ExtensionSizes op sizes size
       → HasSize table k (slice_index sizes 0) (Load bits at) → load_place rows m true bits at ≡ Some place
       → value_of rows history (Apply op sizes (With (Load bits at) Empty)) ≡ Ok (Int own w) → PlaceReads rows history place w
   ext_reads op sizes bits at size place own w e ext has is gives = go (value_of rows history (Load bits at)) refl gives
     where
-      go : (r : Result Value RunFault) → value_of rows history (Load bits at) ≡ r → outcome_of_operands op sizes (operands (r ∷ [])) ≡ Ok (Int own w) → PlaceReads rows history place w
+      go : (r : Result Value RunFault) → value_of rows history (Load bits at) ≡ r
+          → outcome_of_operands op sizes (operands (r ∷ [])) ≡ Ok (Int own w) → PlaceReads rows history place w
       go (Err fault) here out = cc
       go (Ok (Ptr frame offset)) here out = let bad : Err Kind ≡ Ok (Int own w) = sym (ext_pointer op sizes frame offset e) ∙ out in cc
       go (Ok (Int s x)) here out =
@@ -190,7 +202,8 @@ module _ (Sharp : Type 0) (rows : List FrameShape) (m : Mem abstract_sets) (hist
           }
 
   -- a place reads its cell
-  pub place_reads : (e : NumberedExpression) (size : ℕ) (place : Place) (own w : ℕ) → HasSize table k size e → place_of rows m e ≡ Some place → value_of rows history e ≡ Ok (Int own w)
+  pub place_reads : (e : NumberedExpression) (size : ℕ) (place : Place) (own w : ℕ) → HasSize table k size e
+      → place_of rows m e ≡ Some place → value_of rows history e ≡ Ok (Int own w)
       → PlaceReads rows history place w
   place_reads (Number num) size place own w has is gives = none_is place is
   place_reads (Address frame offset) size place own w has is gives = none_is place is

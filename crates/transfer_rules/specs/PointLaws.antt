@@ -117,7 +117,8 @@ module _ (promises : Promises) where
 -- ---- runs
 
 -- one step more
-after_step : (program : NumberedProgram) (t : ℕ) (moment : Moment) → after program (suc t) moment ≡ step program (after program t moment)
+after_step : (program : NumberedProgram) (t : ℕ) (moment : Moment)
+    → after program (suc t) moment ≡ step program (after program t moment)
 after_step program zero moment = refl
 after_step program (suc t) moment = after_step program t (step program moment)
 
@@ -145,7 +146,8 @@ module _ (promises : Promises) (program : NumberedProgram) (graph : GraphParts) 
 
   module _ (rows : List InputRow) (moment : Moment) (from : IsStart program rows moment) where
     -- each node of the run is kept
-    at_kept : (t : ℕ) (node : Node) (history : List RunEvent) → after program t moment ≡ At node history → IsKeptNode program node
+    at_kept : (t : ℕ) (node : Node) (history : List RunEvent) → after program t moment ≡ At node history
+        → IsKeptNode program node
     at_kept t node history e = promises.kept program t (start_history program rows (words_of rows from.numbers)) history node (ap (after program t) (sym from.starts) ∙ e)
 
     not_lost : (t : ℕ) → after program t moment ≢ Over Lost
@@ -153,7 +155,8 @@ module _ (promises : Promises) (program : NumberedProgram) (graph : GraphParts) 
         promises.found program rows (words_of rows from.numbers) t keeps (promises.inputs rows from.numbers from.within) (ap (after program t) (sym from.starts) ∙ e)
 
     -- how the run goes on from a node
-    on_from : (t : ℕ) (node : Node) (history : List RunEvent) (result : Moment) → after program t moment ≡ At node history → step program (At node history) ≡ result
+    on_from : (t : ℕ) (node : Node) (history : List RunEvent) (result : Moment)
+        → after program t moment ≡ At node history → step program (At node history) ≡ result
         → GoesFrom (run_system program graph rows) (points program graph moment) t (number_of graph.nodes node) history
     on_from t node history (At next later) e steps =
         let here = stands_at node (at_kept t node history e) in
@@ -177,10 +180,12 @@ module _ (promises : Promises) (program : NumberedProgram) (graph : GraphParts) 
         let then : after program (suc t) moment ≡ Over Lost = after_step program t moment ∙ ap (step program) e ∙ steps in
         absurd (not_lost (suc t) then)
 
-    on : (t n : ℕ) (c : List RunEvent) → points program graph moment t ≡ Some (n, c) → GoesFrom (run_system program graph rows) (points program graph moment) t n c
+    on : (t n : ℕ) (c : List RunEvent) → points program graph moment t ≡ Some (n, c)
+        → GoesFrom (run_system program graph rows) (points program graph moment) t n c
     on t n c e = go (after program t moment) refl e
       where
-        go : (result : Moment) → after program t moment ≡ result → point_of graph result ≡ Some (n, c) → GoesFrom (run_system program graph rows) (points program graph moment) t n c
+        go : (result : Moment) → after program t moment ≡ result → point_of graph result ≡ Some (n, c)
+            → GoesFrom (run_system program graph rows) (points program graph moment) t n c
         go (At node history) there is_point =
             let parts = same_point (number_of graph.nodes node, history) (n, c) is_point in
             let number : number_of graph.nodes node ≡ n = ap (λ (p : ℕ × List RunEvent). p.0) parts in
@@ -190,7 +195,8 @@ module _ (promises : Promises) (program : NumberedProgram) (graph : GraphParts) 
             (on_from t node history (step program (At node history)) there refl))
         go (Over outcome) there is_point = absurd (no_point (n, c) is_point)
 
-    first_point : (c : List RunEvent) × (points program graph moment 0 ≡ Some (0, c)) × (run_system program graph rows).starts c
+    first_point : (c : List RunEvent) × (points program graph moment 0 ≡ Some (0, c))
+        × (run_system program graph rows).starts c
     first_point =
         let expansion = promises.expands program graph keeps is in
         let zero_is : number_of graph.nodes first_node ≡ 0 = ap (number_of graph.nodes) (sym expansion.first) ∙ numbered program graph expansion 0 expansion.some in

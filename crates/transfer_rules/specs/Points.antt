@@ -26,7 +26,8 @@ abbrev pub moment_at : GraphParts → ℕ → List RunEvent → Moment
 moment_at graph n history = At (node_number graph n) history
 
 -- the run goes on from point to point
-pub record GoesOn (program : NumberedProgram) (graph : GraphParts) (n : ℕ) (before : List RunEvent) (k : ℕ) (later : List RunEvent) : Type 0 where
+pub record GoesOn (program : NumberedProgram) (graph : GraphParts) (n : ℕ) (before : List RunEvent) (k : ℕ)
+    (later : List RunEvent) : Type 0 where
   pub from : n < length graph.nodes
   pub to : k < length graph.nodes
   pub steps : step program (moment_at graph n before) ≡ moment_at graph k later
@@ -38,7 +39,8 @@ pub record EndsAt (program : NumberedProgram) (graph : GraphParts) (n : ℕ) (hi
   pub steps : step program (moment_at graph n history) ≡ Over (Ended outputs)
 
 -- the run ends at the point with this fault
-pub record FailsAt (program : NumberedProgram) (graph : GraphParts) (n : ℕ) (history : List RunEvent) (fault : RunFault) : Type 0 where
+pub record FailsAt (program : NumberedProgram) (graph : GraphParts) (n : ℕ) (history : List RunEvent)
+    (fault : RunFault) : Type 0 where
   pub from : n < length graph.nodes
   pub steps : step program (moment_at graph n history) ≡ Over (Faulted fault)
 

@@ -165,7 +165,8 @@ pinned_side (Some place) None m = None
 pinned_side (Some place) (Some words) m = Some (pinned_to m place words)
 
 -- both sides, where neither has a pointer: the second is held against the first as it was before
-abbrev pub pinned_sides : Rel → Option Place → Option Stride → Option Place → Option Stride → Mem abstract_sets → Option (Mem abstract_sets)
+abbrev pub pinned_sides : Rel → Option Place → Option Stride → Option Place → Option Stride → Mem abstract_sets
+    → Option (Mem abstract_sets)
 pinned_sides rel first (Some x) second (Some y) m = option_and_then (pinned_side second (assumed (swapped rel) y x)) (pinned_side first (assumed rel x y) m)
 pinned_sides rel first (Some x) second None m = Some m
 pinned_sides rel first None second y m = Some m
@@ -185,7 +186,8 @@ abbrev pub if_compared : List FrameShape → Mem abstract_sets → Option Compar
 if_compared rows m None arm = Some m
 if_compared rows m (Some c) arm = compared rows m c arm
 
-abbrev pub by_form : List FrameShape → Mem abstract_sets → Option Place → Option Comparison → Stride → Option (Mem abstract_sets)
+abbrev pub by_form : List FrameShape → Mem abstract_sets → Option Place → Option Comparison → Stride
+    → Option (Mem abstract_sets)
 by_form rows m (Some place) c arm = Some (pinned_to m place arm)
 by_form rows m None c arm = if_compared rows m c arm
 

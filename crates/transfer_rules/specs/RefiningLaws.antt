@@ -51,11 +51,14 @@ none_is a e = absurd (none-some a e)
 -- ---- the words of a side
 
 -- the words of a value without a pointer have its size
-words_sized : (size : ℕ) (o : Option AbstractValue) (x : Stride) → IfSome o (IsValue size) → words_alone o ≡ Some x → IsOfSize stride_sets size x
+words_sized : (size : ℕ) (o : Option AbstractValue) (x : Stride) → IfSome o (IsValue size) → words_alone o ≡ Some x
+    → IsOfSize stride_sets size x
 words_sized size None x is e = none_is x e
 words_sized size (Some v) x is e = go v.words v.places is.is.words is.sized.words e
   where
-    go : (words : Option Stride) (places : List (ℕ × Stride)) → IfSome words IsStride → IfSome words (λ w. w.size ≡ size) → (if some_place places then None else words) ≡ Some x → IsOfSize stride_sets size x
+    go : (words : Option Stride) (places : List (ℕ × Stride)) → IfSome words IsStride
+        → IfSome words (λ w. w.size ≡ size) → (if some_place places then None else words) ≡ Some x
+        → IsOfSize stride_sets size x
     go words (place ∷ places) strides sized e = none_is x e
     go None [] strides sized e = none_is x e
     go (Some words) [] strides sized e = subst (IsOfSize stride_sets size) (same_Some words x e) (record { kept = strides; size = sized })
@@ -68,10 +71,12 @@ pub record WordsTold (Sharp : Type 0) (size : ℕ) (x : Stride) (given : Value) 
   pub covers : CoversWord x bits
   pub only : Sharp → IsOnly stride_sets x bits
 
-words_told : (Sharp : Type 0) (size : ℕ) (v : AbstractValue) (given : Value) (x : Stride) → ValueTold Sharp v given → words_alone (Some v) ≡ Some x → WordsTold Sharp size x given
+words_told : (Sharp : Type 0) (size : ℕ) (v : AbstractValue) (given : Value) (x : Stride) → ValueTold Sharp v given
+    → words_alone (Some v) ≡ Some x → WordsTold Sharp size x given
 words_told Sharp size v given x told e = go v.words v.places given told.covers told.only e
   where
-    go : (words : Option Stride) (places : List (ℕ × Stride)) (given : Value) → Covers (record { words = words; places = places }) given
+    go : (words : Option Stride) (places : List (ℕ × Stride)) (given : Value)
+        → Covers (record { words = words; places = places }) given
         → (Sharp → OnlyCovers abstract_sets (record { words = words; places = places }) given) → (if some_place places then None else words) ≡ Some x → WordsTold Sharp size x given
     go words (place ∷ places) given covers only e = none_is x e
     go None [] given covers only e = none_is x e
@@ -94,7 +99,8 @@ pub record SideLeft (Sharp : Type 0) (size bits : ℕ) (words : Option Stride) :
   pub only : Sharp → GivesOnly stride_sets words bits
 
 -- the memory of an arm that is there
-pub record ArmTold (Sharp : Type 0) (rows : List FrameShape) (history : List RunEvent) (o : Option (Mem abstract_sets)) : Type 0 where
+pub record ArmTold (Sharp : Type 0) (rows : List FrameShape) (history : List RunEvent)
+    (o : Option (Mem abstract_sets)) : Type 0 where
   pub m : Mem abstract_sets
   pub is : o ≡ Some m
   pub stands : Stands Sharp rows m history
@@ -104,7 +110,8 @@ pub record IsPlaceOf (rows : List FrameShape) (history : List RunEvent) (size bi
   pub fits : PlaceFits place size
   pub reads : PlaceReads rows history place bits
 
-one_is : (d x : Stride) (bits : ℕ) (words : Option Stride) → words ≡ Some d → GivesOnly stride_sets words bits → IsOnly stride_sets d bits
+one_is : (d x : Stride) (bits : ℕ) (words : Option Stride) → words ≡ Some d → GivesOnly stride_sets words bits
+    → IsOnly stride_sets d bits
 one_is d x bits words e g = subst (λ (w : Stride). IsOnly stride_sets w bits) (same_Some g.0 d (sym g.1 ∙ e)) g.2
 
 side_told : (Sharp : Type 0) (rows : List FrameShape) (m : Mem abstract_sets) (history : List RunEvent) (size bits : ℕ) (place : Option Place) (words : Option Stride) → Stands Sharp rows m history
@@ -118,14 +125,16 @@ side_told Sharp rows m history size bits (Some place) words stands is left =
       stands = pin_told place size is.fits d (left.sized d left.gives.1) Sharp rows m history bits stands is.reads left.gives.2 (λ sharp. one_is d d bits words left.gives.1 (left.only sharp));
     }
 
-side_kept : (m : Mem abstract_sets) (size : ℕ) (place : Option Place) (words : Option Stride) → MemSized abstract_sets m → IfSome place (λ p. PlaceFits p size) → GivesSize stride_sets words size
+side_kept : (m : Mem abstract_sets) (size : ℕ) (place : Option Place) (words : Option Stride) → MemSized abstract_sets m
+    → IfSome place (λ p. PlaceFits p size) → GivesSize stride_sets words size
     → IfSome (pinned_side place words m) (Kept m)
 side_kept m size None words sized fits of_words = unchanged m sized
 side_kept m size (Some place) None sized fits of_words = tt
 side_kept m size (Some place) (Some words) sized fits of_words = pin_kept place size fits words (of_words words refl) m sized
 
 -- what a relation leaves of a side
-assumed_left : (Sharp : Type 0) (rel : Rel) (size : ℕ) (x y : Stride) (a b : ℕ) → IsOfSize stride_sets size x → IsOfSize stride_sets size y → CoversWord x a → CoversWord y b
+assumed_left : (Sharp : Type 0) (rel : Rel) (size : ℕ) (x y : Stride) (a b : ℕ) → IsOfSize stride_sets size x
+    → IsOfSize stride_sets size y → CoversWord x a → CoversWord y b
     → (Sharp → IsOnly stride_sets x a) → (Sharp → IsOnly stride_sets y b) → Related rel size a b → SideLeft Sharp size a (assumed rel x y)
 assumed_left Sharp rel size x y a b of_x of_y in_x in_y only_x only_y related =
     let law = stride_is_sets.assumed rel x y of_x.kept of_y.kept (of_x.size ∙ sym of_y.size) in
@@ -136,7 +145,8 @@ assumed_left Sharp rel size x y a b of_x of_y in_x in_y only_x only_y related =
       only = λ sharp. law.sharp a b (only_x sharp) (only_y sharp) own;
     }
 
-assumed_sized : (rel : Rel) (size : ℕ) (x y : Stride) → IsOfSize stride_sets size x → IsOfSize stride_sets size y → GivesSize stride_sets (assumed rel x y) size
+assumed_sized : (rel : Rel) (size : ℕ) (x y : Stride) → IsOfSize stride_sets size x → IsOfSize stride_sets size y
+    → GivesSize stride_sets (assumed rel x y) size
 assumed_sized rel size x y of_x of_y = subst (GivesSize stride_sets (assumed rel x y)) of_x.size (stride_is_sets.assumed rel x y of_x.kept of_y.kept (of_x.size ∙ sym of_y.size)).size
 
 -- ---- both sides
@@ -150,7 +160,8 @@ then_kept m (Some n) further kept rest = go (further n) (rest n kept)
     go None more = tt
     go (Some last) more = kept_on m n last kept more
 
-sides_kept : (m : Mem abstract_sets) (size : ℕ) (rel : Rel) (first second : Option Place) (x y : Option Stride) → MemSized abstract_sets m → IfSome first (λ p. PlaceFits p size)
+sides_kept : (m : Mem abstract_sets) (size : ℕ) (rel : Rel) (first second : Option Place) (x y : Option Stride)
+    → MemSized abstract_sets m → IfSome first (λ p. PlaceFits p size)
     → IfSome second (λ p. PlaceFits p size) → IfSome x (IsOfSize stride_sets size) → IfSome y (IsOfSize stride_sets size) → IfSome (pinned_sides rel first x second y m) (Kept m)
 sides_kept m size rel first second None y sized fits_first fits_second of_x of_y = unchanged m sized
 sides_kept m size rel first second (Some x) None sized fits_first fits_second of_x of_y = unchanged m sized
@@ -188,7 +199,8 @@ comparison_is (Address frame offset) c e = none_is c e
 comparison_is (Load size at) c e = none_is c e
 comparison_is (Apply op sizes es) c e = go (relation_of op) refl e
   where
-    sides : (rel : Rel) (es : NumberedExpressions) → op ≡ operator_of rel → sides_of rel es ≡ Some c → IsComparison (Apply op sizes es) c
+    sides : (rel : Rel) (es : NumberedExpressions) → op ≡ operator_of rel → sides_of rel es ≡ Some c
+        → IsComparison (Apply op sizes es) c
     sides rel Empty same e = none_is c e
     sides rel (With x Empty) same e = none_is c e
     sides rel (With x (With y (With z es))) same e = none_is c e
@@ -196,7 +208,8 @@ comparison_is (Apply op sizes es) c e = go (relation_of op) refl e
         subst (IsComparison (Apply op sizes (With x (With y Empty)))) (same_Some (record { rel = rel; first = x; second = y }) c e)
         (record { sizes = sizes; is = ap (λ (o : Op). Apply o sizes (With x (With y Empty))) same })
 
-    go : (o : Option Rel) → relation_of op ≡ o → option_and_then (λ rel. sides_of rel es) o ≡ Some c → IsComparison (Apply op sizes es) c
+    go : (o : Option Rel) → relation_of op ≡ o → option_and_then (λ rel. sides_of rel es) o ≡ Some c
+        → IsComparison (Apply op sizes es) c
     go None found e = none_is c e
     go (Some rel) found e = sides rel es (relation_is op rel found) e
 
@@ -205,14 +218,17 @@ pub record SidesHave (table : List FrameRow) (k : ℕ) (c : Comparison) (sizes :
   pub first : HasSize table k (slice_index sizes 0) c.first
   pub second : HasSize table k (slice_index sizes 0) c.second
 
-sides_have : (table : List FrameRow) (k size : ℕ) (c : Comparison) (sizes : List ℕ) → HasSize table k size (Apply (operator_of c.rel) sizes (With c.first (With c.second Empty))) → SidesHave table k c sizes
+sides_have : (table : List FrameRow) (k size : ℕ) (c : Comparison) (sizes : List ℕ)
+    → HasSize table k size (Apply (operator_of c.rel) sizes (With c.first (With c.second Empty)))
+    → SidesHave table k c sizes
 sides_have table k size c sizes has =
     let both : HaveSizes table k (slice_index sizes 0 ∷ slice_index sizes 0 ∷ []) (With c.first (With c.second Empty)) =
     subst (λ (s : List ℕ). HaveSizes table k s (With c.first (With c.second Empty))) (compared_sizes c.rel sizes) has.operands in
     record { first = both.0; second = both.1.0 }
 
 -- the values of both sides
-pub record SidesGive (rows : List FrameShape) (history : List RunEvent) (c : Comparison) (sizes : List ℕ) (own w : ℕ) : Type 0 where
+pub record SidesGive (rows : List FrameShape) (history : List RunEvent) (c : Comparison) (sizes : List ℕ)
+    (own w : ℕ) : Type 0 where
   pub a : Value
   pub b : Value
   pub first : value_of rows history c.first ≡ Ok a
@@ -223,7 +239,8 @@ sides_give : (rows : List FrameShape) (history : List RunEvent) (c : Comparison)
     → value_of rows history (Apply (operator_of c.rel) sizes (With c.first (With c.second Empty))) ≡ Ok (Int own w) → SidesGive rows history c sizes own w
 sides_give rows history c sizes own w gives = go (value_of rows history c.first) (value_of rows history c.second) refl refl gives
   where
-    go : (r s : Result Value RunFault) → value_of rows history c.first ≡ r → value_of rows history c.second ≡ s → outcome_of_operands (operator_of c.rel) sizes (operands (r ∷ s ∷ [])) ≡ Ok (Int own w)
+    go : (r s : Result Value RunFault) → value_of rows history c.first ≡ r → value_of rows history c.second ≡ s
+        → outcome_of_operands (operator_of c.rel) sizes (operands (r ∷ s ∷ [])) ≡ Ok (Int own w)
         → SidesGive rows history c sizes own w
     go (Err fault) s first second out = cc
     go (Ok a) (Err fault) first second out = cc
@@ -232,21 +249,24 @@ sides_give rows history c sizes own w gives = go (value_of rows history c.first)
 -- ---- the arms
 
 module _ (table : List FrameRow) (k : ℕ) (rows : List FrameShape) (m : Mem abstract_sets) (sized : MemSized abstract_sets m) where
-  places_fit : (e : NumberedExpression) (size : ℕ) → HasSize table k size e → IfSome (place_of rows m e) (λ p. PlaceFits p size)
+  places_fit : (e : NumberedExpression) (size : ℕ) → HasSize table k size e
+      → IfSome (place_of rows m e) (λ p. PlaceFits p size)
   places_fit e size has = go (place_of rows m e) refl
     where
       go : (o : Option Place) → place_of rows m e ≡ o → IfSome o (λ p. PlaceFits p size)
       go None is = tt
       go (Some place) is = place_fits table k rows m e size place has is
 
-  sides_sized : (e : NumberedExpression) (size : ℕ) → HasSize table k size e → IfSome (words_alone (value_at rows m e).left) (IsOfSize stride_sets size)
+  sides_sized : (e : NumberedExpression) (size : ℕ) → HasSize table k size e
+      → IfSome (words_alone (value_at rows m e).left) (IsOfSize stride_sets size)
   sides_sized e size has = go (words_alone (value_at rows m e).left) refl
     where
       go : (o : Option Stride) → words_alone (value_at rows m e).left ≡ o → IfSome o (IsOfSize stride_sets size)
       go None is = tt
       go (Some x) is = words_sized size (value_at rows m e).left x (value_sized table rows m sized k e size has) is
 
-  compared_kept : (c : Comparison) (sizes : List ℕ) (arm : Stride) → SidesHave table k c sizes → IfSome (compared rows m c arm) (Kept m)
+  compared_kept : (c : Comparison) (sizes : List ℕ) (arm : Stride) → SidesHave table k c sizes
+      → IfSome (compared rows m c arm) (Kept m)
   compared_kept c sizes arm have = by_test (is_one arm)
       (λ one. rw one (sides_kept m (slice_index sizes 0) (rel_at c.rel (word_of arm)) (place_of rows m c.first) (place_of rows m c.second) (words_alone (value_at rows m c.first).left)
       (words_alone (value_at rows m c.second).left) sized (places_fit c.first (slice_index sizes 0) have.first) (places_fit c.second (slice_index sizes 0) have.second)
@@ -254,10 +274,12 @@ module _ (table : List FrameRow) (k : ℕ) (rows : List FrameShape) (m : Mem abs
       (λ several. rw several (unchanged m sized))
 
   -- a refined memory keeps sizes, and the functions that run
-  pub refined_kept : (e : NumberedExpression) (size : ℕ) (arm : Stride) → HasSize table k size e → IsOfSize stride_sets size arm → IfSome (refined rows m e arm) (Kept m)
+  pub refined_kept : (e : NumberedExpression) (size : ℕ) (arm : Stride) → HasSize table k size e
+      → IsOfSize stride_sets size arm → IfSome (refined rows m e arm) (Kept m)
   refined_kept e size arm has of_arm = by_place (place_of rows m e) refl (comparison_of e) refl
     where
-      by_place : (o : Option Place) → place_of rows m e ≡ o → (c : Option Comparison) → comparison_of e ≡ c → IfSome (by_form rows m o c arm) (Kept m)
+      by_place : (o : Option Place) → place_of rows m e ≡ o → (c : Option Comparison) → comparison_of e ≡ c
+          → IfSome (by_form rows m o c arm) (Kept m)
       by_place (Some place) is c c_is = pin_kept place size (place_fits table k rows m e size place has is) arm of_arm m sized
       by_place None is None c_is = unchanged m sized
       by_place None is (Some c) c_is =
@@ -265,7 +287,8 @@ module _ (table : List FrameRow) (k : ℕ) (rows : List FrameShape) (m : Mem abs
           compared_kept c of_c.sizes arm (sides_have table k size c of_c.sizes (subst (HasSize table k size) of_c.is has))
 
 module _ (Sharp : Type 0) (rows : List FrameShape) (m : Mem abstract_sets) (history : List RunEvent) (stands : Stands Sharp rows m history) (table : List FrameRow) (k : ℕ) (sizes_are : ValueHasSize) where
-  places_are : (e : NumberedExpression) (size own w : ℕ) → HasSize table k size e → value_of rows history e ≡ Ok (Int own w) → IfSome (place_of rows m e) (IsPlaceOf rows history size w)
+  places_are : (e : NumberedExpression) (size own w : ℕ) → HasSize table k size e
+      → value_of rows history e ≡ Ok (Int own w) → IfSome (place_of rows m e) (IsPlaceOf rows history size w)
   places_are e size own w has gives = go (place_of rows m e) refl
     where
       go : (o : Option Place) → place_of rows m e ≡ o → IfSome o (IsPlaceOf rows history size w)
@@ -282,7 +305,8 @@ module _ (Sharp : Type 0) (rows : List FrameShape) (m : Mem abstract_sets) (hist
     pub is : given ≡ Int own bits
     pub words : IfSome (words_alone (value_at rows m e).left) (λ w. IsOfSize stride_sets size w × CoversWord w bits × (Sharp → IsOnly stride_sets w bits))
 
-  side_of : (e : NumberedExpression) (size : ℕ) (given : Value) (x : Stride) → HasSize table k size e → value_of rows history e ≡ Ok given → words_alone (value_at rows m e).left ≡ Some x
+  side_of : (e : NumberedExpression) (size : ℕ) (given : Value) (x : Stride) → HasSize table k size e
+      → value_of rows history e ≡ Ok given → words_alone (value_at rows m e).left ≡ Some x
       → SideTold e size given
   side_of e size given x has gives is =
       let told : LeftTold Sharp (λ v. ValueTold Sharp v given) (value_at rows m e) = subst (Answers Sharp (ValueTold Sharp) (value_at rows m e)) gives (value_told Sharp rows m history stands table k e size has) in
@@ -297,7 +321,8 @@ module _ (Sharp : Type 0) (rows : List FrameShape) (m : Mem abstract_sets) (hist
       }
 
   -- the two sides, where both have words alone
-  both_told : (c : Comparison) (sizes : List ℕ) (own w : ℕ) → SidesHave table k c sizes → (given : SidesGive rows history c sizes own w) → SideTold c.first (slice_index sizes 0) given.a
+  both_told : (c : Comparison) (sizes : List ℕ) (own w : ℕ) → SidesHave table k c sizes
+      → (given : SidesGive rows history c sizes own w) → SideTold c.first (slice_index sizes 0) given.a
       → SideTold c.second (slice_index sizes 0) given.b
       → ArmTold Sharp rows history (pinned_sides (rel_at c.rel w) (place_of rows m c.first) (words_alone (value_at rows m c.first).left) (place_of rows m c.second) (words_alone (value_at rows m c.second).left) m)
   both_told c sizes own w have given first second =
@@ -316,7 +341,8 @@ module _ (Sharp : Type 0) (rows : List FrameShape) (m : Mem abstract_sets) (hist
       same_word_out : (s n t w : ℕ) → (let r : Result Value RunFault = Ok (Int s n) in r) ≡ Ok (Int t w) → n ≡ w
       same_word_out s n t w e = cc
 
-  compared_told : (c : Comparison) (sizes : List ℕ) (own w : ℕ) (arm : Stride) → SidesHave table k c sizes → SidesGive rows history c sizes own w → CoversWord arm w
+  compared_told : (c : Comparison) (sizes : List ℕ) (own w : ℕ) (arm : Stride) → SidesHave table k c sizes
+      → SidesGive rows history c sizes own w → CoversWord arm w
       → ArmTold Sharp rows history (compared rows m c arm)
   compared_told c sizes own w arm have given covers = by_test (is_one arm)
       (λ one.
@@ -326,7 +352,8 @@ module _ (Sharp : Type 0) (rows : List FrameShape) (m : Mem abstract_sets) (hist
       (go (words_alone (value_at rows m c.first).left) refl (words_alone (value_at rows m c.second).left) refl)))
       (λ several. rw several (record { m = m; is = refl; stands = stands }))
     where
-      go : (x : Option Stride) → words_alone (value_at rows m c.first).left ≡ x → (y : Option Stride) → words_alone (value_at rows m c.second).left ≡ y
+      go : (x : Option Stride) → words_alone (value_at rows m c.first).left ≡ x → (y : Option Stride)
+          → words_alone (value_at rows m c.second).left ≡ y
           → ArmTold Sharp rows history (pinned_sides (rel_at c.rel w) (place_of rows m c.first) (words_alone (value_at rows m c.first).left) (place_of rows m c.second) (words_alone (value_at rows m c.second).left) m)
       go None x_is y y_is = record { m = m; is = ap (λ (o : Option Stride). pinned_sides (rel_at c.rel w) (place_of rows m c.first) o (place_of rows m c.second) (words_alone (value_at rows m c.second).left) m) x_is; stands = stands }
       go (Some x) x_is None y_is = record {
@@ -339,11 +366,13 @@ module _ (Sharp : Type 0) (rows : List FrameShape) (m : Mem abstract_sets) (hist
           both_told c sizes own w have given (side_of c.first (slice_index sizes 0) given.a x have.first given.first x_is) (side_of c.second (slice_index sizes 0) given.b y have.second given.second y_is)
 
   -- where the expression gives a word of the arm, the arm is there, and its memory stands for the history
-  pub refined_told : (e : NumberedExpression) (size own w : ℕ) (arm : Stride) → HasSize table k size e → value_of rows history e ≡ Ok (Int own w) → IsOfSize stride_sets size arm
+  pub refined_told : (e : NumberedExpression) (size own w : ℕ) (arm : Stride) → HasSize table k size e
+      → value_of rows history e ≡ Ok (Int own w) → IsOfSize stride_sets size arm
       → CoversWord arm w → (Sharp → IsOnly stride_sets arm w) → ArmTold Sharp rows history (refined rows m e arm)
   refined_told e size own w arm has gives of_arm covers only = by_place (place_of rows m e) refl (comparison_of e) refl
     where
-      by_place : (o : Option Place) → place_of rows m e ≡ o → (c : Option Comparison) → comparison_of e ≡ c → ArmTold Sharp rows history (by_form rows m o c arm)
+      by_place : (o : Option Place) → place_of rows m e ≡ o → (c : Option Comparison) → comparison_of e ≡ c
+          → ArmTold Sharp rows history (by_form rows m o c arm)
       by_place (Some place) is c c_is = record {
         m = pinned_to m place arm;
         is = refl;

@@ -59,7 +59,8 @@ or_cases : (a b : Bool) → (a || b) ≡ true → (a ≡ true) ⊎ (b ≡ true)
 or_cases true b e = inl refl
 or_cases false b e = inr e
 
-pub in_either : (a b : FaultSet) (kind : RunFault) → has_fault (either a b) kind ≡ true → (has_fault a kind ≡ true) ⊎ (has_fault b kind ≡ true)
+pub in_either : (a b : FaultSet) (kind : RunFault) → has_fault (either a b) kind ≡ true
+    → (has_fault a kind ≡ true) ⊎ (has_fault b kind ≡ true)
 in_either a b kind e = or_cases (has_fault a kind) (has_fault b kind) (sym (is_united a b kind) ∙ e)
 
 pub in_first : (a b : FaultSet) (kind : RunFault) → has_fault a kind ≡ true → has_fault (either a b) kind ≡ true
@@ -74,7 +75,8 @@ none_in_either a b first second kind e = elim (in_either a b kind e) [
   | inr h ↦ second kind h
 ]
 
-pub only_in_either : (a b : FaultSet) (fault : RunFault) → HasOnly a fault → HasOnly b fault → HasOnly (either a b) fault
+pub only_in_either : (a b : FaultSet) (fault : RunFault) → HasOnly a fault → HasOnly b fault
+    → HasOnly (either a b) fault
 only_in_either a b fault first second kind e = elim (in_either a b kind e) [
   | inl h ↦ first kind h
   | inr h ↦ second kind h
@@ -123,7 +125,8 @@ one_alone Kind Kind e = refl
 one_alone Pointers Pointers e = refl
 one_alone _ _ e = absurd (false≢true e)
 
-pub only_is_one : (a : FaultSet) (fault : RunFault) → has_fault a fault ≡ true → HasOnly a fault → a ≡ with_fault no_faults fault
+pub only_is_one : (a : FaultSet) (fault : RunFault) → has_fault a fault ≡ true → HasOnly a fault
+    → a ≡ with_fault no_faults fault
 only_is_one a fault there only =
     same_faults a (with_fault no_faults fault) (λ kind. truth (has_fault a kind) (has_fault (with_fault no_faults fault) kind)
     (λ e. subst (λ (k : RunFault). has_fault (with_fault no_faults fault) k ≡ true) (sym (only kind e)) (with_itself fault))
@@ -131,7 +134,8 @@ only_is_one a fault there only =
 
 -- ---- sets of lists
 
-with_cases : (set : FaultSet) (fault kind : RunFault) → has_fault (with_fault set fault) kind ≡ true → (fault ≡ kind) ⊎ (has_fault set kind ≡ true)
+with_cases : (set : FaultSet) (fault kind : RunFault) → has_fault (with_fault set fault) kind ≡ true
+    → (fault ≡ kind) ⊎ (has_fault set kind ≡ true)
 with_cases set Divide Divide e = inl refl
 with_cases set Uninit Uninit e = inl refl
 with_cases set Mixed Mixed e = inl refl
@@ -141,7 +145,8 @@ with_cases set Kind Kind e = inl refl
 with_cases set Pointers Pointers e = inl refl
 with_cases set _ _ e = inr e
 
-with_kept : (set : FaultSet) (fault kind : RunFault) → has_fault set kind ≡ true → has_fault (with_fault set fault) kind ≡ true
+with_kept : (set : FaultSet) (fault kind : RunFault) → has_fault set kind ≡ true
+    → has_fault (with_fault set fault) kind ≡ true
 with_kept set Divide Divide e = refl
 with_kept set Uninit Uninit e = refl
 with_kept set Mixed Mixed e = refl
@@ -151,13 +156,15 @@ with_kept set Kind Kind e = refl
 with_kept set Pointers Pointers e = refl
 with_kept set _ _ e = e
 
-pub in_set : (faults : List RunFault) (kind : RunFault) → Contains faults kind → has_fault (fault_set faults) kind ≡ true
+pub in_set : (faults : List RunFault) (kind : RunFault) → Contains faults kind
+    → has_fault (fault_set faults) kind ≡ true
 in_set [] kind among = no_member kind among
 in_set (fault ∷ faults) kind among = first_or_further fault faults kind among
     (λ same. subst (λ (k : RunFault). has_fault (with_fault (fault_set faults) fault) k ≡ true) same (is_new (fault_set faults) fault))
     (λ rest. with_kept (fault_set faults) fault kind (in_set faults kind rest))
 
-pub from_set : (faults : List RunFault) (kind : RunFault) → has_fault (fault_set faults) kind ≡ true → Contains faults kind
+pub from_set : (faults : List RunFault) (kind : RunFault) → has_fault (fault_set faults) kind ≡ true
+    → Contains faults kind
 from_set [] kind e = absurd (no_fault kind e)
 from_set (fault ∷ faults) kind e = elim (with_cases (fault_set faults) fault kind e) [
   | inl same ↦ subst (λ (k : RunFault). Contains (fault ∷ faults) k) same (first_member fault faults)
@@ -169,7 +176,8 @@ from_set (fault ∷ faults) kind e = elim (with_cases (fault_set faults) fault k
 pub all_told : {A : Type 0} (Sharp : Type 0) (P : A → Type 0) (a : A) → P a → LeftTold Sharp P (all_left a)
 all_told Sharp P a holds = record { value = a; is = refl; holds = holds; none = λ sharp. no_fault }
 
-more_left : {A : Type 0} (Sharp : Type 0) (P : A → Type 0) (faults : FaultSet) (r : Remains A) → (Sharp → HasNone faults) → LeftTold Sharp P r → LeftTold Sharp P (with_faults faults r)
+more_left : {A : Type 0} (Sharp : Type 0) (P : A → Type 0) (faults : FaultSet) (r : Remains A)
+    → (Sharp → HasNone faults) → LeftTold Sharp P r → LeftTold Sharp P (with_faults faults r)
 more_left Sharp P faults r none told = record {
   value = told.value;
   is = told.is;
@@ -177,7 +185,8 @@ more_left Sharp P faults r none told = record {
   none = λ sharp. none_in_either faults r.faults (none sharp) (told.none sharp);
 }
 
-more_fault : {A : Type 0} (Sharp : Type 0) (faults : FaultSet) (r : Remains A) (fault : RunFault) → (Sharp → HasNone faults) → FaultTold Sharp r fault → FaultTold Sharp (with_faults faults r) fault
+more_fault : {A : Type 0} (Sharp : Type 0) (faults : FaultSet) (r : Remains A) (fault : RunFault)
+    → (Sharp → HasNone faults) → FaultTold Sharp r fault → FaultTold Sharp (with_faults faults r) fault
 more_fault Sharp faults r fault none told = record {
   told = in_second faults r.faults fault told.told;
   alone = told.alone;
@@ -192,7 +201,8 @@ pub fault_on : {A B : Type 0} (Sharp : Type 0) (P : A → Type 0) (r : Remains A
     → FaultTold Sharp (further told.value) fault → FaultTold Sharp (goes_on r further) fault
 fault_on Sharp P r further fault told rest = rw told.is (more_fault Sharp r.faults (further told.value) fault told.none rest)
 
-pub fault_stops : {A B : Type 0} (Sharp : Type 0) (r : Remains A) (further : A → Remains B) (fault : RunFault) → FaultTold Sharp r fault → FaultTold Sharp (goes_on r further) fault
+pub fault_stops : {A B : Type 0} (Sharp : Type 0) (r : Remains A) (further : A → Remains B) (fault : RunFault)
+    → FaultTold Sharp r fault → FaultTold Sharp (goes_on r further) fault
 fault_stops {A} Sharp r further fault told = go r.left refl
   where
     go : (o : Option A) → r.left ≡ o → FaultTold Sharp (onward r.faults o further) fault
@@ -209,7 +219,8 @@ answers_on Sharp P Q r further (Ok c) told rest = left_on Sharp P (λ b. Q b c) 
 answers_on Sharp P Q r further (Err fault) told rest = fault_on Sharp P r further fault told (rest told.value told.is told.holds)
 
 -- what holds of what is left
-pub keeps_on : {A B : Type 0} (P : A → Type 0) (Q : B → Type 0) (r : Remains A) (further : A → Remains B) → IfLeft P r → ((a : A) → P a → IfLeft Q (further a)) → IfLeft Q (goes_on r further)
+pub keeps_on : {A B : Type 0} (P : A → Type 0) (Q : B → Type 0) (r : Remains A) (further : A → Remains B) → IfLeft P r
+    → ((a : A) → P a → IfLeft Q (further a)) → IfLeft Q (goes_on r further)
 keeps_on {A} P Q r further kept rest = go r.left kept
   where
     go : (o : Option A) → IfSome o P → IfSome (onward r.faults o further).left Q

@@ -14,7 +14,8 @@ use Rattle.memory_rules.specs.Memories.{Mem, MemCovers, MemSharp, MemSized}
 use Rattle.memory_rules.specs.AbstractSets.{abstract_sets}
 
 -- the memory covers the history, and where Sharp holds it is sharp for it
-pub record Stands (Sharp : Type 0) (rows : List FrameShape) (m : Mem abstract_sets) (history : List RunEvent) : Type 0 where
+pub record Stands (Sharp : Type 0) (rows : List FrameShape) (m : Mem abstract_sets)
+    (history : List RunEvent) : Type 0 where
   pub sound : IsSound history
   pub sized : MemSized abstract_sets m
   pub covers : MemCovers abstract_sets rows m history

@@ -35,7 +35,8 @@ one_sized size bits is small = stride_is_sets.single_size size bits is small
 pub word_is : (size bits : ℕ) → IsWordSize size → bits < 2 ^ size → IsValue size (word_value size bits)
 word_is size bits is small = alone_is size (Words (one_word size bits)) (one_sized size bits is small)
 
-pub word_told : (Sharp : Type 0) (size bits : ℕ) → IsWordSize size → bits < 2 ^ size → ValueTold Sharp (word_value size bits) (Int size bits)
+pub word_told : (Sharp : Type 0) (size bits : ℕ) → IsWordSize size → bits < 2 ^ size
+    → ValueTold Sharp (word_value size bits) (Int size bits)
 word_told Sharp size bits is small =
     let only = one_only size bits is small in
     record {
@@ -49,7 +50,8 @@ is_32 = record { least = omega arith; most = omega arith }
 pub pointer_is : (frame offset : ℕ) → offset < 2 ^ 32 → IsValue 32 (pointer_value frame offset)
 pointer_is frame offset small = alone_is 32 (Places frame (one_word 32 offset)) (one_sized 32 offset is_32 small, refl)
 
-pub pointer_told : (Sharp : Type 0) (frame offset : ℕ) → offset < 2 ^ 32 → ValueTold Sharp (pointer_value frame offset) (Ptr frame offset)
+pub pointer_told : (Sharp : Type 0) (frame offset : ℕ) → offset < 2 ^ 32
+    → ValueTold Sharp (pointer_value frame offset) (Ptr frame offset)
 pointer_told Sharp frame offset small =
     let only = one_only 32 offset is_32 small in
     record {

@@ -72,7 +72,8 @@ range_progression : (row : InputRow) → row.low ≤ℤ row.high → IsProgressi
 range_progression row ordered = is_from_to row.low row.high (pos 1) ordered (omega (arith, ints)) (by_one (row.high -ℤ row.low))
 
 -- the words of an input inside its range
-pub range_is : (program : NumberedProgram) (row : InputRow) → KeepsInput program row → IsOfSize stride_sets row.size (range_of row)
+pub range_is : (program : NumberedProgram) (row : InputRow) → KeepsInput program row
+    → IsOfSize stride_sets row.size (range_of row)
 range_is program row keeps =
     let size = cell_word row.size (export_cell row.size keeps.sized) in
     record { kept = record { size = size; placed = norm_placed row.size (from_to row.low row.high (pos 1)) size.least (range_progression row keeps.ordered) }; size = refl }
@@ -80,7 +81,8 @@ range_is program row keeps =
 within_has : (row : InputRow) (number : ℤ) → IsWithin row number → Has (from_to row.low row.high (pos 1)) number
 within_has row number within = has_from_to row.low row.high (pos 1) number within.least within.most (by_one (number -ℤ row.low))
 
-pub range_covers : (program : NumberedProgram) (row : InputRow) (number : ℤ) → KeepsInput program row → IsWithin row number → CoversWord (range_of row) (word row.size number)
+pub range_covers : (program : NumberedProgram) (row : InputRow) (number : ℤ) → KeepsInput program row
+    → IsWithin row number → CoversWord (range_of row) (word row.size number)
 range_covers program row number keeps within =
     norm_member row.size (from_to row.low row.high (pos 1)) number (cell_word row.size (export_cell row.size keeps.sized)).least (within_has row number within)
 
@@ -94,7 +96,9 @@ OnlyInputs rows numbers = AllZip OnlyInput rows numbers
 -- ---- inputs
 
 -- the frame of an input is global, or one of the root
-input_active : (program : NumberedProgram) → IsKept program → (row : InputRow) (keeps : KeepsInput program row) (history : List RunEvent) → is_running history program.root ≡ true
+input_active : (program : NumberedProgram) → IsKept program
+    → (row : InputRow) (keeps : KeepsInput program row) (history : List RunEvent)
+    → is_running history program.root ≡ true
     → is_active keeps.row.owner history ≡ true
 input_active program kept row keeps history running = elim keeps.may [
   | inl global ↦ ap (λ (o : Option ℕ). is_active o history) global
@@ -105,7 +109,8 @@ input_active program kept row keeps history running = elim keeps.may [
 ]
 
 module _ (Sharp : Type 0) (program : NumberedProgram) (kept : IsKept program) where
-  inputs_told : (rows : List InputRow) (numbers : List ℤ) (m : Mem abstract_sets) (history : List RunEvent) → All (KeepsInput program) rows → AreWithin rows numbers → (Sharp → OnlyInputs rows numbers)
+  inputs_told : (rows : List InputRow) (numbers : List ℤ) (m : Mem abstract_sets) (history : List RunEvent)
+      → All (KeepsInput program) rows → AreWithin rows numbers → (Sharp → OnlyInputs rows numbers)
       → is_running history program.root ≡ true → Stands Sharp (frames_of program) m history
       → Stands Sharp (frames_of program) (with_inputs rows m) (with_inputs_run rows (words_of rows numbers) history)
   inputs_told [] [] m history keep within only running stands = stands
@@ -136,7 +141,8 @@ module _ (Sharp : Type 0) (program : NumberedProgram) (kept : IsKept program) wh
       record { sound = tt; sized = start.1; covers = record { active = start.0.active; frames = λ frame row found runs. (start.0.frames frame row found runs).covers }; sharp = λ sharp. start.0 }
 
   -- the memory at the start
-  pub first_told : (rows : List InputRow) (numbers : List ℤ) → KeepInputs program rows → AreWithin rows numbers → (Sharp → OnlyInputs rows numbers)
+  pub first_told : (rows : List InputRow) (numbers : List ℤ) → KeepInputs program rows → AreWithin rows numbers
+      → (Sharp → OnlyInputs rows numbers)
       → Stands Sharp (frames_of program) (first_memory program rows) (start_history program rows (words_of rows numbers))
   first_told rows numbers keep within only =
       let root = function_there program kept program.root kept.root in
@@ -153,7 +159,8 @@ record NumberOf (row : InputRow) (t : ℕ) : Type 0 where
   within : IsWithin row number
   is : word row.size number ≡ t
 
-number_of : (program : NumberedProgram) (row : InputRow) (t : ℕ) → KeepsInput program row → CoversWord (range_of row) t → NumberOf row t
+number_of : (program : NumberedProgram) (row : InputRow) (t : ℕ) → KeepsInput program row → CoversWord (range_of row) t
+    → NumberOf row t
 number_of program row t keeps member =
     let p = from_to row.low row.high (pos 1) in
     let d = centered row.size p.lo -ℤ p.lo in
@@ -173,7 +180,8 @@ cons_parts : (a b : ℕ) (xs ys : List ℕ) → a ∷ xs ≡ b ∷ ys → (a ≡
 cons_parts a b xs ys e = (let first : a ≡ b = cc in first, let rest : xs ≡ ys = cc in rest)
 
 -- where there is one start alone, each range has one word alone
-only_numbers : (program : NumberedProgram) (rows : List InputRow) (numbers : List ℤ) → All (KeepsInput program) rows → AreWithin rows numbers
+only_numbers : (program : NumberedProgram) (rows : List InputRow) (numbers : List ℤ) → All (KeepsInput program) rows
+    → AreWithin rows numbers
     → ((others : List ℤ) → AreWithin rows others → words_of rows others ≡ words_of rows numbers) → OnlyInputs rows numbers
 only_numbers program [] [] keep within same = tt
 only_numbers program [] (number ∷ numbers) keep within same = absurd within
@@ -194,7 +202,8 @@ only_numbers program (row ∷ rows) (number ∷ numbers) keep within same =
 stored_parts : (row : InputRow) (a b : ℕ) (h k : List RunEvent) → Store row.frame row.offset row.size (Int row.size a) ∷ h ≡ Store row.frame row.offset row.size (Int row.size b) ∷ k → (a ≡ b) × (h ≡ k)
 stored_parts row a b h k e = (let first : a ≡ b = cc in first, let rest : h ≡ k = cc in rest)
 
-same_words : (rows : List InputRow) (ns ms : List ℤ) → AreWithin rows ns → AreWithin rows ms → (h k : List RunEvent) → with_inputs_run rows (words_of rows ns) h ≡ with_inputs_run rows (words_of rows ms) k
+same_words : (rows : List InputRow) (ns ms : List ℤ) → AreWithin rows ns → AreWithin rows ms → (h k : List RunEvent)
+    → with_inputs_run rows (words_of rows ns) h ≡ with_inputs_run rows (words_of rows ms) k
     → (words_of rows ns ≡ words_of rows ms) × (h ≡ k)
 same_words [] [] [] a b h k e = (refl, e)
 same_words [] [] (m ∷ ms) a b h k e = absurd b
@@ -206,7 +215,8 @@ same_words (row ∷ rows) (n ∷ ns) (m ∷ ms) a b h k e =
     let first = stored_parts row (word row.size n) (word row.size m) h k rest.1 in
     (ap (λ (w : ℕ). w ∷ words_of rows ns) first.0 ∙ ap (λ (ws : List ℕ). word row.size m ∷ ws) rest.0, first.1)
 
-pub only_inputs : (program : NumberedProgram) (rows : List InputRow) (numbers : List ℤ) → KeepInputs program rows → AreWithin rows numbers
+pub only_inputs : (program : NumberedProgram) (rows : List InputRow) (numbers : List ℤ) → KeepInputs program rows
+    → AreWithin rows numbers
     → ((others : List ℤ) → AreWithin rows others → start_history program rows (words_of rows others) ≡ start_history program rows (words_of rows numbers)) → OnlyInputs rows numbers
 only_inputs program rows numbers keep within same =
     only_numbers program rows numbers keep.each within
@@ -216,7 +226,8 @@ only_inputs program rows numbers keep within same =
 
 -- ---- sizes
 
-inputs_kept : (program : NumberedProgram) (rows : List InputRow) (m : Mem abstract_sets) → All (KeepsInput program) rows → MemSized abstract_sets m → Kept m (with_inputs rows m)
+inputs_kept : (program : NumberedProgram) (rows : List InputRow) (m : Mem abstract_sets) → All (KeepsInput program) rows
+    → MemSized abstract_sets m → Kept m (with_inputs rows m)
 inputs_kept program [] m keep sized = unchanged m sized
 inputs_kept program (row ∷ rows) m keep sized =
     let keeps = All-head (KeepsInput program) row rows keep in

@@ -80,7 +80,8 @@ kept_value : {A : Type 0} (P : A → Type 0) (r : Remains A) (a : A) → IfLeft 
 kept_value {A} P r a kept is = subst (λ (o : Option A). IfSome o P) is kept
 
 -- one goal
-goal_told : (Sharp : Type 0) (rows : List FrameShape) (next : Node) (m : Mem abstract_sets) (history : List RunEvent) → Stands Sharp rows m history → Says Sharp rows (to_goal (Some next) m) (At next history)
+goal_told : (Sharp : Type 0) (rows : List FrameShape) (next : Node) (m : Mem abstract_sets) (history : List RunEvent)
+    → Stands Sharp rows m history → Says Sharp rows (to_goal (Some next) m) (At next history)
 goal_told Sharp rows next m history stands =
     all_told Sharp (λ goals. GoesTold Sharp rows goals next history) ((Some next, m) ∷ [])
     (record { m = m; among = first_member (Some next, m) []; stands = stands; only = λ sharp. refl })
@@ -96,7 +97,9 @@ word_or_pointer size bits frame offset e = absurd (apart e)
 module _ (Sharp : Type 0) (rows : List FrameShape) (m : Mem abstract_sets) (history : List RunEvent) (stands : Stands Sharp rows m history) (table : List FrameRow) (k : ℕ) (sizes_are : ValueHasSize)
     (e : NumberedExpression) (size : ℕ) (has : HasSize table k size e) (path : List ℕ) (targets : List (ℕ × ℕ)) (others : ℕ) (small : AreSmall size targets)
     (apart : AllPairs (λ (s t : ℕ × ℕ). s.0 ≢ t.0) targets) where
-  switch_word : (own w : ℕ) → value_of rows history e ≡ Ok (Int own w) → (words : Option Stride) (places : List (ℕ × Stride)) → IfSome words (IsOfSize stride_sets size) → ArePlaces places
+  switch_word : (own w : ℕ) → value_of rows history e ≡ Ok (Int own w)
+      → (words : Option Stride) (places : List (ℕ × Stride)) → IfSome words (IsOfSize stride_sets size)
+      → ArePlaces places
       → Covers (record { words = words; places = places }) (Int own w) → (Sharp → OnlyCovers abstract_sets (record { words = words; places = places }) (Int own w))
       → LeftTold Sharp (λ goals. GoesTold Sharp rows goals (block_node path (target_of targets others w)) history)
       (record { left = arms_of rows m e path targets others words; faults = pointer_fault places })
@@ -109,14 +112,17 @@ module _ (Sharp : Type 0) (rows : List FrameShape) (m : Mem abstract_sets) (hist
     none = λ sharp. no_pointer places of_places (only sharp);
   }
     where
-      no_pointer : (places : List (ℕ × Stride)) → ArePlaces places → OnlyCovers abstract_sets (record { words = Some words; places = places }) (Int own w) → HasNone (pointer_fault places)
+      no_pointer : (places : List (ℕ × Stride)) → ArePlaces places
+          → OnlyCovers abstract_sets (record { words = Some words; places = places }) (Int own w)
+          → HasNone (pointer_fault places)
       no_pointer [] of_places only fault e = no_fault fault e
       no_pointer (place ∷ places) of_places only fault e =
           let o = some_word place.1 of_places.0.offsets in
           let is : Ptr place.0 o.0 ≡ Int own w = only.1 (Ptr place.0 o.0) (rw (eq-eqb place.0 place.0 refl) o.1) in
           word_or_pointer own w place.0 o.0 (sym is)
 
-  switch_pointer : (frame offset : ℕ) (words : Option Stride) (places : List (ℕ × Stride)) → IfSome words (IsOfSize stride_sets size)
+  switch_pointer : (frame offset : ℕ) (words : Option Stride) (places : List (ℕ × Stride))
+      → IfSome words (IsOfSize stride_sets size)
       → Covers (record { words = words; places = places }) (Ptr frame offset) → (Sharp → OnlyCovers abstract_sets (record { words = words; places = places }) (Ptr frame offset))
       → FaultTold {A = Goals} Sharp (record { left = arms_of rows m e path targets others words; faults = pointer_fault places }) Kind
   switch_pointer frame offset words [] of_words covers only = elim covers [ ]
@@ -126,14 +132,16 @@ module _ (Sharp : Type 0) (rows : List FrameShape) (m : Mem abstract_sets) (hist
     one = λ sharp. one_alone Kind;
   }
     where
-      no_word : (words : Option Stride) → IfSome words (IsOfSize stride_sets size) → OnlyCovers abstract_sets (record { words = words; places = place ∷ places }) (Ptr frame offset)
+      no_word : (words : Option Stride) → IfSome words (IsOfSize stride_sets size)
+          → OnlyCovers abstract_sets (record { words = words; places = place ∷ places }) (Ptr frame offset)
           → arms_of rows m e path targets others words ≡ None
       no_word None of_words only = refl
       no_word (Some w) of_words only =
           let t = some_word w of_words.kept in
           word_or_pointer w.size t.0 frame offset (only.1 (Int w.size t.0) (refl, t.1))
 
-  switch_told : (r : Result Value RunFault) → value_of rows history e ≡ r → Answers Sharp (ValueTold Sharp) (value_at rows m e) r
+  switch_told : (r : Result Value RunFault) → value_of rows history e ≡ r
+      → Answers Sharp (ValueTold Sharp) (value_at rows m e) r
       → Says Sharp rows (goes_on (value_at rows m e) (switched rows m e path targets others)) (switch_step path targets others history r)
   switch_told (Err fault) gives told = fault_stops Sharp (value_at rows m e) (switched rows m e path targets others) fault told
   switch_told (Ok (Int own w)) gives told =
@@ -153,7 +161,8 @@ same_Ok : (vs ws : List Value) → (let r : Result (List Value) RunFault = Ok vs
 same_Ok vs ws e = cc
 
 -- the values of arguments fit their frames
-arguments_fit : (table : List FrameRow) (rows : List FrameShape) (history : List RunEvent) (k : ℕ) → ValueHasSize → IsSound history → (args : List ℕ) (es : List NumberedExpression) (values : List Value)
+arguments_fit : (table : List FrameRow) (rows : List FrameShape) (history : List RunEvent) (k : ℕ) → ValueHasSize
+    → IsSound history → (args : List ℕ) (es : List NumberedExpression) (values : List Value)
     → AllZip (ArgumentKeeps table k) args es → operands (map (value_of rows history) es) ≡ Ok values → AllZip (ArgumentFits table k) args values
 arguments_fit table rows history k sizes_are sound [] [] values keep e = subst (AllZip (ArgumentFits table k) []) (same_Ok [] values e) tt
 arguments_fit table rows history k sizes_are sound [] (e ∷ es) values keep is = absurd keep
@@ -161,7 +170,8 @@ arguments_fit table rows history k sizes_are sound (f ∷ args) [] values keep i
 arguments_fit table rows history k sizes_are sound (f ∷ args) (e ∷ es) values keep is =
     go (value_of rows history e) refl (operands (map (value_of rows history) es)) refl (λ others others_are. arguments_fit table rows history k sizes_are sound args es others keep.1 others_are) is
   where
-    go : (r : Result Value RunFault) → value_of rows history e ≡ r → (rs : Result (List Value) RunFault) → operands (map (value_of rows history) es) ≡ rs
+    go : (r : Result Value RunFault) → value_of rows history e ≡ r → (rs : Result (List Value) RunFault)
+        → operands (map (value_of rows history) es) ≡ rs
         → ((others : List Value) → operands (map (value_of rows history) es) ≡ Ok others → AllZip (ArgumentFits table k) args others)
         → operands (r ∷ map (value_of rows history) es) ≡ Ok values → AllZip (ArgumentFits table k) (f ∷ args) values
     go (Err fault) r_is rs rs_is rest is = cc
@@ -188,7 +198,8 @@ module _ (Sharp : Type 0) (program : NumberedProgram) (keeps : IsKept program) (
 
   -- ---- returns
 
-  left_stands : (m : Mem abstract_sets) (history : List RunEvent) (f : ℕ) → Stands Sharp (frames_of program) m history → Stands Sharp (frames_of program) (left abstract_sets m f) (Leave f ∷ history)
+  left_stands : (m : Mem abstract_sets) (history : List RunEvent) (f : ℕ) → Stands Sharp (frames_of program) m history
+      → Stands Sharp (frames_of program) (left abstract_sets m f) (Leave f ∷ history)
   left_stands m history f stands = record {
     sound = stands.sound;
     sized = leave_sized abstract_sets abstract_is_sets m f stands.sized;
@@ -231,7 +242,8 @@ module _ (Sharp : Type 0) (program : NumberedProgram) (keeps : IsKept program) (
   end_told : (m : Mem abstract_sets) → LeftTold Sharp (EndTold Sharp) (to_goal None m)
   end_told m = all_told Sharp (EndTold Sharp) ((None, m) ∷ []) (record { m = m; among = first_member (None, m) []; only = λ sharp. refl })
 
-  leave_told : (path : List ℕ) (v : AbstractValue) (value : Value) (m : Mem abstract_sets) (history : List RunEvent) → IsCallPath program path → Stands Sharp (frames_of program) m history
+  leave_told : (path : List ℕ) (v : AbstractValue) (value : Value) (m : Mem abstract_sets) (history : List RunEvent)
+      → IsCallPath program path → Stands Sharp (frames_of program) m history
       → ((b : ℕ) (rest : List ℕ) → path ≡ b ∷ rest → (back : BackTo program keeps rest b) → (to : ℕ × ℕ) → back.call.result ≡ Some to → Returned v value)
       → Says Sharp (frames_of program) (leave_to program path (Some v) m) (leave program path (Some value) history)
   leave_told [] v value m history calls stands given = end_told (left abstract_sets m program.root)
@@ -243,7 +255,8 @@ module _ (Sharp : Type 0) (program : NumberedProgram) (keeps : IsKept program) (
       (result_told path back.call.next (function_at program path) back.call.result v value (left abstract_sets m f) (Leave f ∷ history) (left_stands m history f stands) back.keep.result_keeps
       (λ to is. given b path refl back to is))
 
-  leave_none_told : (path : List ℕ) (m : Mem abstract_sets) (history : List RunEvent) → IsCallPath program path → Stands Sharp (frames_of program) m history
+  leave_none_told : (path : List ℕ) (m : Mem abstract_sets) (history : List RunEvent) → IsCallPath program path
+      → Stands Sharp (frames_of program) m history
       → Says Sharp (frames_of program) (leave_to program path None m) (leave program path None history)
   leave_none_told [] m history calls stands = end_told (left abstract_sets m program.root)
   leave_none_told (b ∷ path) m history calls stands =
@@ -255,7 +268,9 @@ module _ (Sharp : Type 0) (program : NumberedProgram) (keeps : IsKept program) (
   -- ---- a step
 
   module _ (path : List ℕ) (b : ℕ) (calls : IsCallPath program path) (block : NumberedBlock) (at : slice_get (blocks_at program (function_at program path)) b ≡ Some block) where
-    return_told : (value : NumberedExpression) → block.ending ≡ Return (Some value) → (size : ℕ) → HasSize program.frames (function_at program path) size value → (m : Mem abstract_sets) (history : List RunEvent)
+    return_told : (value : NumberedExpression) → block.ending ≡ Return (Some value) → (size : ℕ)
+        → HasSize program.frames (function_at program path) size value
+        → (m : Mem abstract_sets) (history : List RunEvent)
         → Stands Sharp (frames_of program) m history → (r : Result Value RunFault) → value_of (frames_of program) history value ≡ r → Answers Sharp (ValueTold Sharp) (value_at (frames_of program) m value) r
         → Says Sharp (frames_of program) (goes_on (value_at (frames_of program) m value) (λ v. leave_to program path (Some v) m)) (return_step program path history r)
     return_told value is size has m history stands (Err fault) gives told = fault_stops Sharp (value_at (frames_of program) m value) (λ v. leave_to program path (Some v) m) fault told
@@ -271,7 +286,9 @@ module _ (Sharp : Type 0) (program : NumberedProgram) (keeps : IsKept program) (
         let eq : cell.size ≡ size = size_once program.frames (function_at program (c ∷ rest)) cell.size size value cell.value_has own in
         record { size = size; cell = subst IsCell eq (cell_size cell.size cell.cell); is = of_v; told = v_told; fits = fits }))
 
-    ending_told : (ending : BlockEnding) → block.ending ≡ ending → KeepsEnding program (function_at program path) b ending → (m : Mem abstract_sets) (history : List RunEvent) → Stands Sharp (frames_of program) m history
+    ending_told : (ending : BlockEnding) → block.ending ≡ ending
+        → KeepsEnding program (function_at program path) b ending → (m : Mem abstract_sets) (history : List RunEvent)
+        → Stands Sharp (frames_of program) m history
         → Says Sharp (frames_of program) (end_at program path b ending m) (ending_step program path b ending history)
     ending_told (Fall next) is keep m history stands = goal_told Sharp (frames_of program) (block_node path next) m history stands
     ending_told (Jump to) is keep m history stands = goal_told Sharp (frames_of program) (block_node path to) m history stands
@@ -290,7 +307,8 @@ module _ (Sharp : Type 0) (program : NumberedProgram) (keeps : IsKept program) (
         return_told value is keep.size keep.gives m history stands (value_of (frames_of program) history value) refl
         (value_told Sharp (frames_of program) m history stands program.frames k value keep.size keep.gives)
 
-    then_told : (m : Mem abstract_sets) (history : List RunEvent) → KeepsEnding program (function_at program path) b block.ending → (r : Result (List RunEvent) RunFault)
+    then_told : (m : Mem abstract_sets) (history : List RunEvent)
+        → KeepsEnding program (function_at program path) b block.ending → (r : Result (List RunEvent) RunFault)
         → Answers Sharp (Stands Sharp (frames_of program)) (after_statements (frames_of program) block.statements m) r
         → Says Sharp (frames_of program) (goes_on (after_statements (frames_of program) block.statements m) (end_at program path b block.ending)) (then_ending program path b block.ending r)
     then_told m history keep (Err fault) told = fault_stops Sharp (after_statements (frames_of program) block.statements m) (end_at program path b block.ending) fault told
@@ -299,11 +317,13 @@ module _ (Sharp : Type 0) (program : NumberedProgram) (keeps : IsKept program) (
         (ending_step program path b block.ending later) told (λ n n_is stands. ending_told block.ending refl keep n later stands)
 
   -- a step from a memory that stands for the history
-  pub step_told : (node : Node) (m : Mem abstract_sets) (history : List RunEvent) → IsPlaced program node → Stands Sharp (frames_of program) m history
+  pub step_told : (node : Node) (m : Mem abstract_sets) (history : List RunEvent) → IsPlaced program node
+      → Stands Sharp (frames_of program) m history
       → Says Sharp (frames_of program) (step_at program node.path node.block m) (step program (At node history))
   step_told node m history placed stands = go node.block
     where
-      of_block : (b : ℕ) (o : Option NumberedBlock) → slice_get (blocks_at program (function_at program node.path)) b ≡ o
+      of_block : (b : ℕ) (o : Option NumberedBlock)
+          → slice_get (blocks_at program (function_at program node.path)) b ≡ o
           → Says Sharp (frames_of program) (block_at program node.path b o m) (block_step program node.path b o history)
       of_block b None at = tt
       of_block b (Some block) at =

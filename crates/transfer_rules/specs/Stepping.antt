@@ -49,7 +49,8 @@ abbrev pub arm : List FrameShape → Mem abstract_sets → NumberedExpression �
 arm rows m e path to None = []
 arm rows m e path to (Some words) = arm_to path to (refined rows m e words)
 
-abbrev pub target_arms : List FrameShape → Mem abstract_sets → NumberedExpression → List ℕ → Stride → List (ℕ × ℕ) → Goals
+abbrev pub target_arms : List FrameShape → Mem abstract_sets → NumberedExpression → List ℕ → Stride → List (ℕ × ℕ)
+    → Goals
 target_arms rows m e path words [] = []
 target_arms rows m e path words (target ∷ targets) = arm rows m e path target.1 (only words target.0) ++ target_arms rows m e path words targets
 
@@ -57,7 +58,8 @@ target_arms rows m e path words (target ∷ targets) = arm rows m e path target.
 abbrev pub arms : List FrameShape → Mem abstract_sets → NumberedExpression → List ℕ → List (ℕ × ℕ) → ℕ → Stride → Goals
 arms rows m e path targets others words = target_arms rows m e path words targets ++ arm rows m e path others (without_all (Some words) targets)
 
-abbrev pub arms_of : List FrameShape → Mem abstract_sets → NumberedExpression → List ℕ → List (ℕ × ℕ) → ℕ → Option Stride → Option Goals
+abbrev pub arms_of : List FrameShape → Mem abstract_sets → NumberedExpression → List ℕ → List (ℕ × ℕ) → ℕ
+    → Option Stride → Option Goals
 arms_of rows m e path targets others None = None
 arms_of rows m e path targets others (Some words) = Some (arms rows m e path targets others words)
 
@@ -66,20 +68,23 @@ abbrev pub pointer_fault : List (ℕ × Stride) → FaultSet
 pointer_fault [] = no_faults
 pointer_fault (place ∷ places) = with_fault no_faults Kind
 
-abbrev pub switched : List FrameShape → Mem abstract_sets → NumberedExpression → List ℕ → List (ℕ × ℕ) → ℕ → AbstractValue → Remains Goals
+abbrev pub switched : List FrameShape → Mem abstract_sets → NumberedExpression → List ℕ → List (ℕ × ℕ) → ℕ
+    → AbstractValue → Remains Goals
 switched rows m e path targets others v = record { left = arms_of rows m e path targets others v.words; faults = pointer_fault v.places }
 
 -- ---- returns
 
 -- the result is stored where the call wants it
-abbrev pub result_to : List FrameShape → List ℕ → ℕ → Option (ℕ × ℕ) → Option AbstractValue → Mem abstract_sets → Remains Goals
+abbrev pub result_to : List FrameShape → List ℕ → ℕ → Option (ℕ × ℕ) → Option AbstractValue → Mem abstract_sets
+    → Remains Goals
 result_to rows path next (Some to) (Some v) m = goes_on (stored_through rows m (pointer_value to.0 to.1) v) (to_goal (Some (block_node path next)))
 result_to rows path next None None m = to_goal (Some (block_node path next)) m
 result_to rows path next (Some to) None m = nothing_left
 result_to rows path next None (Some v) m = nothing_left
 
 -- back to the call that stands in the caller's block
-abbrev pub back_to : List FrameShape → List ℕ → Option BlockEnding → Option AbstractValue → Mem abstract_sets → Remains Goals
+abbrev pub back_to : List FrameShape → List ℕ → Option BlockEnding → Option AbstractValue → Mem abstract_sets
+    → Remains Goals
 back_to rows path None v m = nothing_left
 back_to rows path (Some (Fall next)) v m = nothing_left
 back_to rows path (Some (Jump to)) v m = nothing_left

@@ -53,18 +53,21 @@ abbrev pub GoalIs : NumberedProgram → Node → Goal × Mem abstract_sets → T
 GoalIs program node goal = Leads program node goal.0 × GoalFits program goal.0 goal.1
 
 -- both crates name the functions of a path
-pub same_functions : (program : NumberedProgram) (path : List ℕ) → functions_along program path ≡ functions_on program path
+pub same_functions : (program : NumberedProgram) (path : List ℕ)
+    → functions_along program path ≡ functions_on program path
 same_functions program [] = refl
 same_functions program (b ∷ path) = ap (λ (fs : List ℕ). function_at program (b ∷ path) ∷ fs) (same_functions program path)
 
 -- ---- active frames
 
 -- memories in which the same functions run
-pub same_along : (program : NumberedProgram) (path : List ℕ) (m n : Mem abstract_sets) → n.runs ≡ m.runs → RunsAlong program path m → RunsAlong program path n
+pub same_along : (program : NumberedProgram) (path : List ℕ) (m n : Mem abstract_sets) → n.runs ≡ m.runs
+    → RunsAlong program path m → RunsAlong program path n
 same_along program path m n same along = subst (λ (runs : ℕ → Bool). (owner : Option ℕ) → (is_on runs owner ≡ true) ↔ IsOwnedAlong program path owner) (sym same) along
 
 -- a function entered
-enter_along : (program : NumberedProgram) (path : List ℕ) (b f : ℕ) (m : Mem abstract_sets) → function_at program (b ∷ path) ≡ f → RunsAlong program path m
+enter_along : (program : NumberedProgram) (path : List ℕ) (b f : ℕ) (m : Mem abstract_sets)
+    → function_at program (b ∷ path) ≡ f → RunsAlong program path m
     → RunsAlong program (b ∷ path) (entered abstract_sets (frames_of program) m f)
 enter_along program path b f m is along None = (λ e. tt, λ t. refl)
 enter_along program path b f m is along (Some g) = (
@@ -85,7 +88,8 @@ newest_apart f fs distinct among =
     distinct 0 (suc among.0) f (omega arith) (omega (arith, low)) (sym among.2)
 
 -- a function left
-left_along : (program : NumberedProgram) (path : List ℕ) (b : ℕ) (m : Mem abstract_sets) → IsDistinct (functions_on program (b ∷ path)) → RunsAlong program (b ∷ path) m
+left_along : (program : NumberedProgram) (path : List ℕ) (b : ℕ) (m : Mem abstract_sets)
+    → IsDistinct (functions_on program (b ∷ path)) → RunsAlong program (b ∷ path) m
     → RunsAlong program path (left abstract_sets m (function_at program (b ∷ path)))
 left_along program path b m distinct along None = (λ e. tt, λ t. refl)
 left_along program path b m distinct along (Some g) = (
@@ -105,13 +109,15 @@ left_along program path b m distinct along (Some g) = (
 -- ---- goals
 
 -- an expression has one size
-pub size_once : (table : List FrameRow) (k s t : ℕ) (e : NumberedExpression) → HasSize table k s e → HasSize table k t e → s ≡ t
+pub size_once : (table : List FrameRow) (k s t : ℕ) (e : NumberedExpression) → HasSize table k s e → HasSize table k t e
+    → s ≡ t
 size_once table k s t (Number num) a b = sym a.same ∙ b.same
 size_once table k s t (Address frame offset) a b = sym a.same ∙ b.same
 size_once table k s t (Load bits at) a b = sym a.same ∙ b.same
 size_once table k s t (Apply op sizes es) a b = same_Some s t (sym a.result_is ∙ b.result_is)
 
-each_goal : (P Q : Goal × Mem abstract_sets → Type 0) (goals : Goals) → ((goal : Goal × Mem abstract_sets) → P goal → Q goal) → EachGoal P goals → EachGoal Q goals
+each_goal : (P Q : Goal × Mem abstract_sets → Type 0) (goals : Goals)
+    → ((goal : Goal × Mem abstract_sets) → P goal → Q goal) → EachGoal P goals → EachGoal Q goals
 each_goal P Q [] turn each = tt
 each_goal P Q (goal ∷ goals) turn each = (turn goal each.0, each_goal P Q goals turn each.1)
 
@@ -119,13 +125,15 @@ each_goal P Q (goal ∷ goals) turn each = (turn goal each.0, each_goal P Q goal
 pub words_of_size : (size : ℕ) (v : AbstractValue) → IsValue size v → IfSome v.words (IsOfSize stride_sets size)
 words_of_size size v is = go v.words is.is.words is.sized.words
   where
-    go : (words : Option Stride) → IfSome words IsStride → IfSome words (λ w. w.size ≡ size) → IfSome words (IsOfSize stride_sets size)
+    go : (words : Option Stride) → IfSome words IsStride → IfSome words (λ w. w.size ≡ size)
+        → IfSome words (IsOfSize stride_sets size)
     go None strides sized = tt
     go (Some words) strides sized = record { kept = strides; size = sized }
 
 module _ (program : NumberedProgram) (keeps : IsKept program) where
   -- the block of a function keeps the rules
-  pub block_keeps : (f b : ℕ) (block : NumberedBlock) → f < length program.funcs → slice_get (blocks_at program f) b ≡ Some block → KeepsBlock program f b block
+  pub block_keeps : (f b : ℕ) (block : NumberedBlock) → f < length program.funcs
+      → slice_get (blocks_at program f) b ≡ Some block → KeepsBlock program f b block
   block_keeps f b block low at =
       let own = function_there program keeps f low in
       (keeps.functions f own.0 own.1).blocks b block (subst (λ (blocks : List NumberedBlock). slice_get blocks b ≡ Some block) own.2 at)
@@ -156,7 +164,8 @@ module _ (program : NumberedProgram) (keeps : IsKept program) where
       subst (λ (f : ℕ). Gives program.frames f back.call.result value) (sym back.enters) (back.keep.gives own block value here ending)
 
   -- a goal within the instance
-  inside : (path : List ℕ) (node : Node) (to : ℕ) (m n : Mem abstract_sets) → Kept m n → RunsAlong program path m → Leads program node (Some (block_node path to))
+  inside : (path : List ℕ) (node : Node) (to : ℕ) (m n : Mem abstract_sets) → Kept m n → RunsAlong program path m
+      → Leads program node (Some (block_node path to))
       → IfLeft (EachGoal (GoalIs program node)) (to_goal (Some (block_node path to)) n)
   inside path node to m n kept along leads = ((leads, (kept.sized, same_along program path m n kept.runs along)), tt)
 
@@ -177,7 +186,8 @@ module _ (program : NumberedProgram) (keeps : IsKept program) where
         subst (λ (g : Goal). GoalFits program g goal.1) (sym is.0.2) (is.1.sized, same_along program path m goal.1 is.1.runs along),
       )
 
-      go : (words : Option Stride) → IfSome words (IsOfSize stride_sets size) → IfSome (arms_of (frames_of program) m e path targets others words) (EachGoal (GoalIs program node))
+      go : (words : Option Stride) → IfSome words (IsOfSize stride_sets size)
+          → IfSome (arms_of (frames_of program) m e path targets others words) (EachGoal (GoalIs program node))
       go None of_words = tt
       go (Some words) of_words =
           each_goal (IsArm path targets others m) (GoalIs program node) (arms (frames_of program) m e path targets others words) turn
@@ -218,13 +228,15 @@ module _ (program : NumberedProgram) (keeps : IsKept program) where
 
   module _ (path : List ℕ) (b : ℕ) (calls : IsCallPath program path) (distinct : IsDistinct (functions_on program path)) (block : NumberedBlock)
       (at : slice_get (blocks_at program (function_at program path)) b ≡ Some block) where
-    leads_by : (ending : BlockEnding) → block.ending ≡ ending → (goal : Goal) → EndLeads program path b (Some ending) goal → Leads program (block_node path b) goal
+    leads_by : (ending : BlockEnding) → block.ending ≡ ending → (goal : Goal)
+        → EndLeads program path b (Some ending) goal → Leads program (block_node path b) goal
     leads_by ending is goal leads =
         let found : ending_at program (function_at program path) b ≡ Some ending = ap (option_map (λ (x : NumberedBlock). x.ending)) at ∙ ap Some is in
         subst (λ (o : Option BlockEnding). EndLeads program path b o goal) (sym found) leads
 
     -- a value that is returned to a cell has the cell's size
-    stored_result : (value : NumberedExpression) → block.ending ≡ Return (Some value) → (size : ℕ) → HasSize program.frames (function_at program path) size value → (v : AbstractValue) → IsValue size v
+    stored_result : (value : NumberedExpression) → block.ending ≡ Return (Some value) → (size : ℕ)
+        → HasSize program.frames (function_at program path) size value → (v : AbstractValue) → IsValue size v
         → (c : ℕ) (rest : List ℕ) → path ≡ c ∷ rest → (back : BackTo rest c) → (to : ℕ × ℕ) (w : AbstractValue) → back.call.result ≡ Some to → Some v ≡ Some w → IsCell size × IsValue size w
     stored_result value is size has v of_v c rest same back to w r_is v_is =
         let g = back_gives rest c b block (Some value) back (subst (λ (p : List ℕ). slice_get (blocks_at program (function_at program p)) b ≡ Some block) same at) is in
@@ -234,7 +246,8 @@ module _ (program : NumberedProgram) (keeps : IsKept program) where
         let eq : cell.size ≡ size = size_once program.frames (function_at program (c ∷ rest)) cell.size size value cell.value_has own in
         (subst IsCell eq (cell_size cell.size cell.cell), subst (IsValue size) (same_Some v w v_is) of_v)
 
-    end_goals : (ending : BlockEnding) → block.ending ≡ ending → KeepsEnding program (function_at program path) b ending → (m : Mem abstract_sets) → MemSized abstract_sets m → RunsAlong program path m
+    end_goals : (ending : BlockEnding) → block.ending ≡ ending → KeepsEnding program (function_at program path) b ending
+        → (m : Mem abstract_sets) → MemSized abstract_sets m → RunsAlong program path m
         → IfLeft (EachGoal (GoalIs program (block_node path b))) (end_at program path b ending m)
     end_goals (Fall next) is keep m sized along = inside path (block_node path b) next m m (unchanged_by m sized) along (leads_by (Fall next) is (Some (block_node path next)) refl)
     end_goals (Jump to) is keep m sized along = inside path (block_node path b) to m m (unchanged_by m sized) along (leads_by (Jump to) is (Some (block_node path to)) refl)
@@ -270,7 +283,8 @@ module _ (program : NumberedProgram) (keeps : IsKept program) where
         (λ c rest same back to w r_is v_is. stored_result value is keep.size keep.gives v of_v c rest same back to w r_is v_is))
 
 -- a step
-pub goals_are : (program : NumberedProgram) → IsKept program → (node : Node) (m : Mem abstract_sets) → IsPlaced program node → IsDistinct (functions_on program node.path) → MemSized abstract_sets m
+pub goals_are : (program : NumberedProgram) → IsKept program → (node : Node) (m : Mem abstract_sets)
+    → IsPlaced program node → IsDistinct (functions_on program node.path) → MemSized abstract_sets m
     → RunsAlong program node.path m → IfLeft (EachGoal (GoalIs program node)) (step_at program node.path node.block m)
 goals_are program keeps node m placed distinct sized along = go node.block refl
   where

@@ -24,13 +24,15 @@ stays_over program zero outcome = refl
 stays_over program (suc t) outcome = stays_over program t outcome
 
 -- one step more has one node more
-one_more : (program : NumberedProgram) (t : ℕ) (moment : Moment) → trace program (suc t) moment ≡ trace program t moment ++ trace program 1 (after program t moment)
+one_more : (program : NumberedProgram) (t : ℕ) (moment : Moment)
+    → trace program (suc t) moment ≡ trace program t moment ++ trace program 1 (after program t moment)
 one_more program zero moment = refl
 one_more program (suc t) (At node history) = ap (λ (nodes : List Node). node ∷ nodes) (one_more program t (step program (At node history)))
 one_more program (suc t) (Over outcome) = ap (trace program 1) (sym (stays_over program t outcome))
 
 -- the node of a moment, before those that came earlier
-node_first : (program : NumberedProgram) (graph : GraphParts) (moment : Moment) (past : List ℕ) → with_node (point_of graph moment) past ≡ reverse (map (number_of graph.nodes) (trace program 1 moment)) ++ past
+node_first : (program : NumberedProgram) (graph : GraphParts) (moment : Moment) (past : List ℕ)
+    → with_node (point_of graph moment) past ≡ reverse (map (number_of graph.nodes) (trace program 1 moment)) ++ past
 node_first program graph (At node history) past = refl
 node_first program graph (Over outcome) past = refl
 

@@ -5,7 +5,8 @@ ghost use Rattle.alf_check.specs.CheckedPrograms.{NumberedProgram};
 ghost use Rattle.memory_rules.specs.Memories.{Mem};
 ghost use Rattle.memory_rules.specs.AbstractSets.{abstract_sets};
 ghost use Rattle.transfer_rules.specs.Machines.{memory_order};
-ghost use Rattle.transfer_rules.specs.TransferLaws.{AddressFaultsTold, ExpressionsTell, ExpressionsTellOnly, TransferIsMachine, TransferGoesAlong};
+ghost use Rattle.transfer_rules.specs.TransferLaws.{AddressFaultsTold, ExpressionsTell, ExpressionsTellOnly};
+ghost use Rattle.transfer_rules.specs.TransferLaws.{TransferIsMachine, TransferGoesAlong};
 
 use alf_runs::{
     a_step_leads_along_an_edge, active_frames_follow_the_call_path, values_have_their_size,

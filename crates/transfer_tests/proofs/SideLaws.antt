@@ -28,7 +28,8 @@ use Rattle.abstract_memory.specs.Cells.{IsCellOf}
 use Rattle.transfer_tests.specs.Sides.{AreReady}
 
 -- both are those before each event
-pub both_fresh : (count : ℕ) (checked : CheckedParts) (a b : MemoryParts) → count ≡ functions_of checked → a.checked ≡ checked → b.checked ≡ checked → IsMemory a → IsMemory b
+pub both_fresh : (count : ℕ) (checked : CheckedParts) (a b : MemoryParts) → count ≡ functions_of checked
+    → a.checked ≡ checked → b.checked ≡ checked → IsMemory a → IsMemory b
     → memory_in a ≡ fresh abstract_sets → memory_in b ≡ fresh abstract_sets → AreReady count a b
 both_fresh count checked a b is own other kept kept_other first second = record {
   alike = record {
@@ -42,7 +43,8 @@ both_fresh count checked a b is own other kept kept_other first second = record 
 
 -- ---- the first is changed
 
-pub first_changed : (count : ℕ) (a b new : MemoryParts) → AreReady count a b → new.checked ≡ a.checked → IsMemory new → (memory_in new).runs ≡ (memory_in a).runs → AreReady count new b
+pub first_changed : (count : ℕ) (a b new : MemoryParts) → AreReady count a b → new.checked ≡ a.checked → IsMemory new
+    → (memory_in new).runs ≡ (memory_in a).runs → AreReady count new b
 first_changed count a b new ready same kept runs = record {
   alike = record {
     checked = same ∙ ready.alike.checked;
@@ -53,16 +55,19 @@ first_changed count a b new ready same kept runs = record {
   functions = ready.functions ∙ ap functions_of (sym same);
 }
 
-weak_runs : (cells : List (ℕ × ℕ)) (m : Mem abstract_sets) (size : ℕ) (v : AbstractValue) → (weak_all abstract_sets m cells size v).runs ≡ m.runs
+weak_runs : (cells : List (ℕ × ℕ)) (m : Mem abstract_sets) (size : ℕ) (v : AbstractValue)
+    → (weak_all abstract_sets m cells size v).runs ≡ m.runs
 weak_runs [] m size v = refl
 weak_runs (cell ∷ cells) m size v = weak_runs cells (weak_at abstract_sets m cell size v) size v
 
-stored_runs : (cells : List (ℕ × ℕ)) (m : Mem abstract_sets) (size : ℕ) (v : AbstractValue) → (stored abstract_sets m cells size v).runs ≡ m.runs
+stored_runs : (cells : List (ℕ × ℕ)) (m : Mem abstract_sets) (size : ℕ) (v : AbstractValue)
+    → (stored abstract_sets m cells size v).runs ≡ m.runs
 stored_runs [] m size v = refl
 stored_runs (cell ∷ []) m size v = refl
 stored_runs (cell ∷ other ∷ cells) m size v = weak_runs (cell ∷ other ∷ cells) m size v
 
-pub stored_first : (count : ℕ) (a b new : MemoryParts) (at v : AbstractValue) (size : ℕ) → AreReady count a b → new.checked ≡ a.checked → IsMemory new
+pub stored_first : (count : ℕ) (a b new : MemoryParts) (at v : AbstractValue) (size : ℕ) → AreReady count a b
+    → new.checked ≡ a.checked → IsMemory new
     → memory_in new ≡ stored_at (rows_of a.checked) (memory_in a) at size v → AreReady count new b
 stored_first count a b new at v size ready same kept is =
     first_changed count a b new ready same kept
@@ -70,7 +75,8 @@ stored_first count a b new at v size ready same kept is =
 
 -- ---- both are
 
-pub both_entered : (count : ℕ) (a b new other : MemoryParts) (f : ℕ) → AreReady count a b → new.checked ≡ a.checked → other.checked ≡ b.checked → IsMemory new → IsMemory other
+pub both_entered : (count : ℕ) (a b new other : MemoryParts) (f : ℕ) → AreReady count a b → new.checked ≡ a.checked
+    → other.checked ≡ b.checked → IsMemory new → IsMemory other
     → memory_in new ≡ entered abstract_sets (rows_of a.checked) (memory_in a) f → memory_in other ≡ entered abstract_sets (rows_of b.checked) (memory_in b) f → AreReady count new other
 both_entered count a b new other f ready same same_other kept kept_other is is_other = record {
   alike = record {
@@ -85,7 +91,8 @@ both_entered count a b new other f ready same same_other kept kept_other is is_o
   functions = ready.functions ∙ ap functions_of (sym same);
 }
 
-pub both_left : (count : ℕ) (a b new other : MemoryParts) (f : ℕ) → AreReady count a b → new.checked ≡ a.checked → other.checked ≡ b.checked → IsMemory new → IsMemory other
+pub both_left : (count : ℕ) (a b new other : MemoryParts) (f : ℕ) → AreReady count a b → new.checked ≡ a.checked
+    → other.checked ≡ b.checked → IsMemory new → IsMemory other
     → memory_in new ≡ left abstract_sets (memory_in a) f → memory_in other ≡ left abstract_sets (memory_in b) f → AreReady count new other
 both_left count a b new other f ready same same_other kept kept_other is is_other = record {
   alike = record {
@@ -130,7 +137,8 @@ first_joined count a b new ready is =
 no_error : (fault : RunFault) (cell : ℕ × ℕ) → Err fault ≡ (let r : Result (ℕ × ℕ) RunFault = Ok cell in r) → ⊥
 no_error fault cell e = cc
 
-cell_at : (found : Option FrameShape) (rows : List FrameShape) (runs : ℕ → Bool) (frame offset size : ℕ) → slice_get rows frame ≡ found
+cell_at : (found : Option FrameShape) (rows : List FrameShape) (runs : ℕ → Bool) (frame offset size : ℕ)
+    → slice_get rows frame ≡ found
     → tested_in found runs frame offset size ≡ Ok (frame, offset) → IsCellAt rows runs frame offset size
 cell_at None rows runs frame offset size is there = absurd (no_error Dead (frame, offset) there)
 cell_at (Some row) rows runs frame offset size is there = by_test (is_on runs row.owner)
@@ -139,10 +147,12 @@ cell_at (Some row) rows runs frame offset size is there = by_test (is_on runs ro
     (λ far. absurd (no_error Bounds (frame, offset) (rw (on, far) at there))))
     (λ off. absurd (no_error Dead (frame, offset) (rw off at there)))
 
-pub cell_there : (rows : List FrameShape) (runs : ℕ → Bool) (frame offset size : ℕ) → tested rows runs (Ptr frame offset) size ≡ Ok (frame, offset) → IsCellAt rows runs frame offset size
+pub cell_there : (rows : List FrameShape) (runs : ℕ → Bool) (frame offset size : ℕ)
+    → tested rows runs (Ptr frame offset) size ≡ Ok (frame, offset) → IsCellAt rows runs frame offset size
 cell_there rows runs frame offset size there = cell_at (slice_get rows frame) rows runs frame offset size refl there
 
-pub cell_of : (rows : List FrameShape) (runs : ℕ → Bool) (frame offset size : ℕ) → tested rows runs (Ptr frame offset) size ≡ Ok (frame, offset) → IsCellOf rows frame offset size
+pub cell_of : (rows : List FrameShape) (runs : ℕ → Bool) (frame offset size : ℕ)
+    → tested rows runs (Ptr frame offset) size ≡ Ok (frame, offset) → IsCellOf rows frame offset size
 cell_of rows runs frame offset size there =
     let c = cell_there rows runs frame offset size there in
     record { row = c.row; found = c.found; fits = c.fits }

@@ -32,7 +32,8 @@ bare_canonical zero = refl
 bare_canonical (suc count) = ap (λ (slots : List HeldSlot). bare held_no_byte ∷ slots) (bare_canonical count)
 
 -- slots that hold nothing
-pub bare_slots : FreshHeld → (count : ℕ) (slots : List HeldSlot) → slots ≡ replicate count (bare held_no_byte) → AreSlots count slots
+pub bare_slots : FreshHeld → (count : ℕ) (slots : List HeldSlot) → slots ≡ replicate count (bare held_no_byte)
+    → AreSlots count slots
 bare_slots law count slots is = subst (AreSlots count) (sym is) (record {
   many = bare_length count;
   canonical = bare_canonical count;
@@ -41,7 +42,8 @@ bare_slots law count slots is = subst (AreSlots count) (sym is) (record {
 
 module _ (count : ℕ) (old new : List HeldSlot) (offset size : ℕ) (value : AbstractValue) (are : AreSlots count old) (same : length new ≡ length old) (keep : AreCanonical old → AreCanonical new) where
   -- after a strong store
-  pub stored_slots : IsCellSize size → IsValue size value → frame_of new ≡ strong abstract_sets (frame_of old) offset size value → AreSlots count new
+  pub stored_slots : IsCellSize size → IsValue size value
+      → frame_of new ≡ strong abstract_sets (frame_of old) offset size value → AreSlots count new
   stored_slots cell is stored = record {
     many = same ∙ are.many;
     canonical = keep are.canonical;
@@ -49,7 +51,8 @@ module _ (count : ℕ) (old new : List HeldSlot) (offset size : ℕ) (value : Ab
   }
 
   -- after a weak one
-  pub mixed_slots : IsCellSize size → IsValue size value → frame_of new ≡ weak abstract_sets (frame_of old) offset size value → AreSlots count new
+  pub mixed_slots : IsCellSize size → IsValue size value
+      → frame_of new ≡ weak abstract_sets (frame_of old) offset size value → AreSlots count new
   mixed_slots cell is stored = record {
     many = same ∙ are.many;
     canonical = keep are.canonical;
@@ -57,7 +60,8 @@ module _ (count : ℕ) (old new : List HeldSlot) (offset size : ℕ) (value : Ab
   }
 
   -- after a pin
-  pub pinned_slots : IsValue size value → frame_of new ≡ pinned abstract_sets (frame_of old) offset size value → AreSlots count new
+  pub pinned_slots : IsValue size value → frame_of new ≡ pinned abstract_sets (frame_of old) offset size value
+      → AreSlots count new
   pinned_slots is stored = record {
     many = same ∙ are.many;
     canonical = keep are.canonical;

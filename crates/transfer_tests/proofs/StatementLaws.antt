@@ -21,19 +21,22 @@ use Rattle.step_statements.specs.Typed.{IsTypedStatement}
 use Rattle.step_statements.specs.Arguments.{FitCall}
 
 -- the statements of a block keep the rules
-pub all_typed : (table : List FrameRow) (k : ℕ) (ss : List NumberedStatement) → All (KeepsStatement table k) ss → AllByRecursion IsTypedStatement ss
+pub all_typed : (table : List FrameRow) (k : ℕ) (ss : List NumberedStatement) → All (KeepsStatement table k) ss
+    → AllByRecursion IsTypedStatement ss
 all_typed table k [] all = tt
 all_typed table k (s ∷ ss) all =
     (record { table = table; function = k; keeps = All-head (KeepsStatement table k) s ss all }, all_typed table k ss (All-tail (KeepsStatement table k) s ss all))
 
 -- the row at a place that is there
-pub row_at : (rows : List FrameRow) (place : ℕ) (row : FrameRow) → place < length rows → row ≡ get_or rows place row → slice_get rows place ≡ Some row
+pub row_at : (rows : List FrameRow) (place : ℕ) (row : FrameRow) → place < length rows → row ≡ get_or rows place row
+    → slice_get rows place ≡ Some row
 row_at [] place row low is = absurd (omega arith)
 row_at (first ∷ rows) zero row low is = ap (λ (r : FrameRow). Some r) (sym is)
 row_at (first ∷ rows) (suc place) row low is = row_at rows place row (omega arith) is
 
 -- a value of the size of a frame may be its argument
-pub argument_of : (table : List FrameRow) (frame : ℕ) (row : FrameRow) (v : AbstractValue) → slice_get table frame ≡ Some row → IsCellSize row.bits → IsValue row.bits v → ArgumentIs table 0 frame v
+pub argument_of : (table : List FrameRow) (frame : ℕ) (row : FrameRow) (v : AbstractValue)
+    → slice_get table frame ≡ Some row → IsCellSize row.bits → IsValue row.bits v → ArgumentIs table 0 frame v
 argument_of table frame row v at cell is =
     let some : 8 ≤ row.bits = let bytes : 0 < row.bits / 8 = cell.0 in omega (arith, bytes) in
     record {
@@ -51,7 +54,8 @@ argument_of table frame row v at cell is =
     first n = pow_mono {i = 0} {j = n} (omega arith)
 
 -- such values are those of a call
-pub call_of : (program : NumberedProgram) (f : ℕ) (row : FuncRow) (args : List ℕ) (values : List AbstractValue) → IsFunction program f row → args ≡ row.args.items
+pub call_of : (program : NumberedProgram) (f : ℕ) (row : FuncRow) (args : List ℕ) (values : List AbstractValue)
+    → IsFunction program f row → args ≡ row.args.items
     → AllZip (ArgumentIs program.frames 0) args values → FitCall program f values
 call_of program f row args values is same are = record {
   caller = 0;

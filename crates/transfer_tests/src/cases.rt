@@ -70,8 +70,8 @@ store { addr 32 { fref 32 \"main::i\" } { dec_unsigned 32 0 } } with { add 32 { 
 return { load 32 { add 32 { addr 32 { fref 32 \"a\" } { dec_unsigned 32 0 } } { trunc 64 32 { s_mul 32 32 { \
 dec_signed 32 0 } { dec_signed 32 4 } } } { dec_unsigned 1 0 } } } } { return { dec_signed 32 0 } } } } } } }";
 
-// What is so, the program, the inputs, the cells that are loaded, the chosen successors, and what is told of each step: the
-// faults, and the next nodes with what the cells hold. Between two cases a line is free.
+// What is so, the program, the inputs, the cells that are loaded, the chosen successors, and what is told of each step:
+// the faults, and the next nodes with what the cells hold. Between two cases a line is free.
 static CASES: &str = "\
 a place has two frames
 { store &p with { if 32 { s_lt 32 *x #5 } &y &r } } { switch { s_lt 32 { load 32 *p } #5 } { target '1 @T } { \

@@ -14,8 +14,8 @@ const EVENTS: &str = "\
 |enter 0; enter 1; leave 0; \
 |enter 0; enter 1; leave 0; leave 1; ";
 
-// A frame, an offset and a size, and whether the cell is there after each of these. Frames 0 and 1 are global, of 16 and
-// 80 bytes; frame 2 is of `main`, of 8 bytes; frames 3 and 4 are of `leaf`, of 4 and 8 bytes. There is no other.
+// A frame, an offset and a size, and whether the cell is there after each of these. Frames 0 and 1 are global, of 16
+// and 80 bytes; frame 2 is of `main`, of 8 bytes; frames 3 and 4 are of `leaf`, of 4 and 8 bytes. There is no other.
 const ROWS: &str = "\
 0 0 8: yes yes yes yes yes\n\
 0 0 64: yes yes yes yes yes\n\

@@ -60,7 +60,8 @@ unsigned s_ge => 2( w32:-4..10/1 w32:3..12/1 w8:0..5/1 ) 3( w32:-4..10/1 w32:3..
 // What they hold before.
 const FIRST: &str = "/ 1( w32:-4..10/1 w32:3..12/1 w8:-4..10/1 )/";
 
-// The sides: places of 32 bits are alone on the left, on the right, or on both; an extended place is read signed or unsigned.
+// The sides: places of 32 bits are alone on the left, on the right, or on both; an extended place is read signed or
+// unsigned.
 fn sides(form: &str) -> &'static str {
     match form {
         "left" => "*x #5",

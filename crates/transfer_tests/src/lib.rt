@@ -1,5 +1,5 @@
-//! Tests of abstract memories and of steps over them: `abstract_memory` and the crates that it stands on, `step_statements`,
-//! and `abstract_step`. Without tests this library is empty.
+//! Tests of abstract memories and of steps over them: `abstract_memory` and the crates that it stands on,
+//! `step_statements`, and `abstract_step`. Without tests this library is empty.
 //!
 //! Memories, of one program (`program`), with values as texts (`values`):
 //!

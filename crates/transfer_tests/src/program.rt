@@ -6,8 +6,8 @@ use std::alloc::{AllocError, Global};
 use std::test::Fail;
 
 // Frame 0 is global and has 128 bits, as the worked rows want it. Frame 1 is global and has 80 bytes, which lie on two
-// pages, and a word of 32 bits at offset 8 at first. Frame 2 is of `main` and has 64 bits. Frames 3 and 4 are of `leaf`:
-// its argument of 32 bits, and 64 bits which begin with a word of 16 bits.
+// pages, and a word of 32 bits at offset 8 at first. Frame 2 is of `main` and has 64 bits. Frames 3 and 4 are of
+// `leaf`: its argument of 32 bits, and 64 bits which begin with a word of 16 bits.
 const TEXT: &str = "\
 { alf { macro_defs } { least_addr_unit 8 } little_endian { exports { frefs } { lrefs } } { imports { frefs } { \
 lrefs } } { decls { alloc 32 \"row\" 128 } { alloc 32 \"wide\" 640 } } { inits { init { ref \"wide\" { dec_unsigned \

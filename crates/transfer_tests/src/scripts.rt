@@ -1,7 +1,7 @@
 //! Scripts of calls, with what each call tells by the rules.
 //!
-//! The first five are worked rows: a store at one of four cells of a frame of 128 bits, and a copy. The others were worked
-//! out by hand.
+//! The first five are worked rows: a store at one of four cells of a frame of 128 bits, and a copy. The others were
+//! worked out by hand.
 
 use crate::program::checked_text;
 use crate::steps::told_script;

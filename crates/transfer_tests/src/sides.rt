@@ -32,11 +32,7 @@ pub(crate) fn fresh<'a>(alloc: Global, checked: &'a Checked) -> Result<Sides<'a>
 }
 
 /// A function is entered in both.
-pub(crate) fn enter(
-    alloc: Global,
-    sides: &mut Sides<'_>,
-    func: u32,
-) -> Result<(), AllocError>
+pub(crate) fn enter(alloc: Global, sides: &mut Sides<'_>, func: u32) -> Result<(), AllocError>
     requires { AreReady sides.old.functions sides.old.a sides.old.b }
     ensures { OnOk result (AreReady sides.new.functions sides.new.a sides.new.b) }
 {

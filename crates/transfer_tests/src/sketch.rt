@@ -1,7 +1,7 @@
 //! Programs and inputs in a short notation.
 //!
-//! A program is told by the items of `main` and of further functions. The global frames are `x`, `y`, `r` and `p` of
-//! 32 bits, `c` of 8, `h` of 16 and `w` of 64, which are the frames 0 to 6. Each function has the frame `own` of 32 bits.
+//! A program is told by the items of `main` and of further functions. The global frames are `x`, `y`, `r` and `p` of 32
+//! bits, `c` of 8, `h` of 16 and `w` of 64, which are the frames 0 to 6. Each function has the frame `own` of 32 bits.
 
 use std::alloc::{AllocError, Global};
 
@@ -13,16 +13,41 @@ lrefs } } { decls { alloc 32 \"x\" 32 } { alloc 32 \"y\" 32 } { alloc 32 \"r\" 3
 
 const OWN: &str = "{ scope { decls { alloc 32 \"own\" 32 } } { inits } { stmts ";
 
-// What a word begins with, and what then stands before and after its name. `@A` is a label or a function, `&x` an address,
-// `*x` a load of 32 bits and `*8x` one of 8, `#5` a number of 32 bits, `$5` one of 8 and `'0` a bit. After `/f` stand the
-// items of a further function, and after `%f` those of one with the arguments `a` of 8, `b` of 32 and `d` of 64 bits.
+// What a word begins with, and what then stands before and after its name. `@A` is a label or a function, `&x` an
+// address, `*x` a load of 32 bits and `*8x` one of 8, `#5` a number of 32 bits, `$5` one of 8 and `'0` a bit. After
+// `/f` stand the items of a further function, and after `%f` those of one with the arguments `a` of 8, `b` of 32 and
+// `d` of 64 bits.
 static WORDS: [(&str, &str, &str); 11] = [
-    ("@", "{ label 32 { lref 32 \"", "\" } { dec_unsigned 32 0 } } "),
-    ("&", "{ addr 32 { fref 32 \"", "\" } { dec_unsigned 32 0 } } "),
-    ("*8", "{ load 8 { addr 32 { fref 32 \"", "\" } { dec_unsigned 32 0 } } } "),
-    ("*16", "{ load 16 { addr 32 { fref 32 \"", "\" } { dec_unsigned 32 0 } } } "),
-    ("*64", "{ load 64 { addr 32 { fref 32 \"", "\" } { dec_unsigned 32 0 } } } "),
-    ("*", "{ load 32 { addr 32 { fref 32 \"", "\" } { dec_unsigned 32 0 } } } "),
+    (
+        "@",
+        "{ label 32 { lref 32 \"",
+        "\" } { dec_unsigned 32 0 } } ",
+    ),
+    (
+        "&",
+        "{ addr 32 { fref 32 \"",
+        "\" } { dec_unsigned 32 0 } } ",
+    ),
+    (
+        "*8",
+        "{ load 8 { addr 32 { fref 32 \"",
+        "\" } { dec_unsigned 32 0 } } } ",
+    ),
+    (
+        "*16",
+        "{ load 16 { addr 32 { fref 32 \"",
+        "\" } { dec_unsigned 32 0 } } } ",
+    ),
+    (
+        "*64",
+        "{ load 64 { addr 32 { fref 32 \"",
+        "\" } { dec_unsigned 32 0 } } } ",
+    ),
+    (
+        "*",
+        "{ load 32 { addr 32 { fref 32 \"",
+        "\" } { dec_unsigned 32 0 } } } ",
+    ),
     ("#", "{ dec_unsigned 32 ", " } "),
     ("$", "{ dec_unsigned 8 ", " } "),
     ("'", "{ dec_unsigned 1 ", " } "),

@@ -1,7 +1,7 @@
 //! Values as texts.
 //!
-//! A value has parts with `|` between them: words, as `w32:0,7`, of which the join from the left is meant, or offsets in a
-//! frame, as `p1:4`. It is told by its ends and its step, as `w32:0..7/7`.
+//! A value has parts with `|` between them: words, as `w32:0,7`, of which the join from the left is meant, or offsets
+//! in a frame, as `p1:4`. It is told by its ends and its step, as `w32:0..7/7`.
 
 ghost use Rattle.std.specs.Prelude.{◌≡◌, IsTrue};
 ghost use Rattle.domain_core.specs.WordSets.{IsWordSize};

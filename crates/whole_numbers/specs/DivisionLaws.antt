@@ -27,7 +27,8 @@ pub rest_divides : (z : ℤ) (d : ℕ) → 0 < d → Divides (pos d) (z -ℤ int
 rest_divides z d positive = record { times = int_div_euclid z (pos d); is = omega (arith, ints, quotient_and_rest z d positive) }
 
 -- two numbers with one rest, from their difference
-pub same_rest : (x y : ℤ) (d : ℕ) → 0 < d → Divides (pos d) (x -ℤ y) → int_rem_euclid x (pos d) ≡ int_rem_euclid y (pos d)
+pub same_rest : (x y : ℤ) (d : ℕ) → 0 < d → Divides (pos d) (x -ℤ y)
+    → int_rem_euclid x (pos d) ≡ int_rem_euclid y (pos d)
 same_rest x y d positive m =
     let r = int_rem_euclid x (pos d) in
     let s = int_rem_euclid y (pos d) in
@@ -68,7 +69,8 @@ no_multiple (pos (suc k)) d positive e = absurd (omega (arith, ints, e))
 no_multiple (negsuc k) d positive e = absurd (omega (arith, ints, e))
 
 -- the quotient is the one with a rest from 0 to below the divisor
-pub quotient_is : (x q r : ℤ) (d : ℕ) → 0 < d → x ≡ (q *ℤ pos d) +ℤ r → pos 0 ≤ℤ r → r <ℤ pos d → (int_div_euclid x (pos d) ≡ q) × (int_rem_euclid x (pos d) ≡ r)
+pub quotient_is : (x q r : ℤ) (d : ℕ) → 0 < d → x ≡ (q *ℤ pos d) +ℤ r → pos 0 ≤ℤ r → r <ℤ pos d
+    → (int_div_euclid x (pos d) ≡ q) × (int_rem_euclid x (pos d) ≡ r)
 quotient_is x q r d positive e low high =
     let k = int_div_euclid x (pos d) in
     let s = int_rem_euclid x (pos d) in
@@ -90,7 +92,8 @@ quotient_rises x y d positive less = by_test (int_le (int_div_euclid x (pos d)) 
     absurd (omega (arith, ints, m, sum_times l (pos 1) (pos d), quotient_and_rest x d positive, quotient_and_rest y d positive, rest_range x d positive, rest_range y d positive)))
 
 -- a multiple of d more is so much more of the quotient
-pub quotient_of_sum : (x k : ℤ) (d : ℕ) → 0 < d → int_div_euclid (x +ℤ (k *ℤ pos d)) (pos d) ≡ int_div_euclid x (pos d) +ℤ k
+pub quotient_of_sum : (x k : ℤ) (d : ℕ) → 0 < d
+    → int_div_euclid (x +ℤ (k *ℤ pos d)) (pos d) ≡ int_div_euclid x (pos d) +ℤ k
 quotient_of_sum x k d positive = (quotient_is (x +ℤ (k *ℤ pos d)) (int_div_euclid x (pos d) +ℤ k) (int_rem_euclid x (pos d)) d positive
     (omega (arith, ints, quotient_and_rest x d positive, sum_times (int_div_euclid x (pos d)) k (pos d)))
     (rest_range x d positive).0 (rest_range x d positive).1).0
@@ -99,7 +102,8 @@ pub zero_quotient : (d : ℕ) → 0 < d → int_div_euclid (pos 0) (pos d) ≡ p
 zero_quotient d positive = (quotient_is (pos 0) (pos 0) (pos 0) d positive (omega (arith, ints)) (omega (arith, ints)) (omega (arith, ints))).0
 
 -- the rest by a step above 0
-pub rest_of : (z d : ℤ) → pos 0 <ℤ d → (pos 0 ≤ℤ int_rem_euclid z d) × (int_rem_euclid z d <ℤ d) × Divides d (z -ℤ int_rem_euclid z d)
+pub rest_of : (z d : ℤ) → pos 0 <ℤ d
+    → (pos 0 ≤ℤ int_rem_euclid z d) × (int_rem_euclid z d <ℤ d) × Divides d (z -ℤ int_rem_euclid z d)
 rest_of z (pos d) positive =
     let above : 0 < d = omega (arith, ints) in
     let r = rest_range z d above in (r.0, r.1, rest_divides z d above)

@@ -85,5 +85,6 @@ pub gcd_fits : (a b : ℤ) → unsigned_abs a < 2 ^ 127 → unsigned_abs b < 2 ^
 gcd_fits a b p q = fits_signed_from_abs w128 (gcd a b) (gcd_below (unsigned_abs a) (unsigned_abs b) p q)
 
 -- that of three numbers fits too
-pub gcd_fits_three : (a b c : ℤ) → unsigned_abs a < 2 ^ 127 → unsigned_abs b < 2 ^ 127 → unsigned_abs c < 2 ^ 127 → FitsSigned w128 (gcd (gcd a b) c)
+pub gcd_fits_three : (a b c : ℤ) → unsigned_abs a < 2 ^ 127 → unsigned_abs b < 2 ^ 127 → unsigned_abs c < 2 ^ 127
+    → FitsSigned w128 (gcd (gcd a b) c)
 gcd_fits_three a b c p q r = gcd_fits (gcd a b) c (gcd_below (unsigned_abs a) (unsigned_abs b) p q) r

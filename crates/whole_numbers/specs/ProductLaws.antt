@@ -26,17 +26,20 @@ times_rising lo n m p q = omega (arith, ints, times_not_negative (n -ℤ lo) m (
 pub times_falling : (lo n m : ℤ) → lo ≤ℤ n → m ≤ℤ pos 0 → (n *ℤ m) ≤ℤ (lo *ℤ m)
 times_falling lo n m p q = omega (arith, ints, times_rising lo n (pos 0 -ℤ m) p (omega (arith, ints)), difference_times (pos 0) m lo, difference_times (pos 0) m n, *ℤ_comm (pos 0 -ℤ m) lo, *ℤ_comm (pos 0 -ℤ m) n, *ℤ_comm m lo, *ℤ_comm m n)
 
-pub times_between : (lo hi n m : ℤ) → lo ≤ℤ n → n ≤ℤ hi → (int_min (lo *ℤ m) (hi *ℤ m) ≤ℤ (n *ℤ m)) × ((n *ℤ m) ≤ℤ int_max (lo *ℤ m) (hi *ℤ m))
+pub times_between : (lo hi n m : ℤ) → lo ≤ℤ n → n ≤ℤ hi
+    → (int_min (lo *ℤ m) (hi *ℤ m) ≤ℤ (n *ℤ m)) × ((n *ℤ m) ≤ℤ int_max (lo *ℤ m) (hi *ℤ m))
 times_between lo hi n m p q = by_test (int_le (pos 0) m)
     (λ yes_. let a = times_rising lo n m p (omega (arith, ints, yes_)) in
     let b = times_rising n hi m q (omega (arith, ints, yes_)) in (omega (arith, ints, clamps, a), omega (arith, ints, clamps, b)))
     (λ no_. let a = times_falling lo n m p (omega (arith, ints, no_)) in
     let b = times_falling n hi m q (omega (arith, ints, no_)) in (omega (arith, ints, clamps, b), omega (arith, ints, clamps, a)))
 
-pub by_mins : (s t u v x y z : ℤ) → int_min s t ≤ℤ x → int_min u v ≤ℤ y → int_min x y ≤ℤ z → int_min (int_min s t) (int_min u v) ≤ℤ z
+pub by_mins : (s t u v x y z : ℤ) → int_min s t ≤ℤ x → int_min u v ≤ℤ y → int_min x y ≤ℤ z
+    → int_min (int_min s t) (int_min u v) ≤ℤ z
 by_mins s t u v x y z p q r = omega (arith, ints, clamps)
 
-pub by_maxes : (s t u v x y z : ℤ) → x ≤ℤ int_max s t → y ≤ℤ int_max u v → z ≤ℤ int_max x y → z ≤ℤ int_max (int_max s t) (int_max u v)
+pub by_maxes : (s t u v x y z : ℤ) → x ≤ℤ int_max s t → y ≤ℤ int_max u v → z ≤ℤ int_max x y
+    → z ≤ℤ int_max (int_max s t) (int_max u v)
 by_maxes s t u v x y z p q r = omega (arith, ints, clamps)
 
 -- factors on the left

@@ -54,7 +54,8 @@ module _ (ks ls : List (List ℕ)) where
             right n e (omega arith) (ap (key_at (ks ++ ls)) e ∙ at_right ks ls n)
       ]
 
-  pub least_right : (i j : ℕ) → IsFirstLeast ks i → IsFirstLeast ls j → Precedes (key_at ls j) (key_at ks i) → IsFirstLeast (ks ++ ls) (length ks + j)
+  pub least_right : (i j : ℕ) → IsFirstLeast ks i → IsFirstLeast ls j → Precedes (key_at ls j) (key_at ks i)
+      → IsFirstLeast (ks ++ ls) (length ks + j)
   least_right i j f g below = record {
     within = (let all = length-append ks ls in let low = g.within in omega arith);
     least = λ m low less. by_side m low
@@ -65,7 +66,8 @@ module _ (ks ls : List (List ℕ)) where
         (λ n e in_ls is. rw (is, at_right ks ls j) (g.first n (omega arith)));
   }
 
-  pub least_left : (i j : ℕ) → IsFirstLeast ks i → IsFirstLeast ls j → (Precedes (key_at ls j) (key_at ks i) → ⊥) → IsFirstLeast (ks ++ ls) i
+  pub least_left : (i j : ℕ) → IsFirstLeast ks i → IsFirstLeast ls j → (Precedes (key_at ls j) (key_at ks i) → ⊥)
+      → IsFirstLeast (ks ++ ls) i
   least_left i j f g most = record {
     within = (let all = length-append ks ls in let low = f.within in omega arith);
     least = λ m low less. by_side m low

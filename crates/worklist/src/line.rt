@@ -1,6 +1,7 @@
 //! Lists.
 
-ghost use Rattle.std.specs.Prelude.{◌≡◌, ◌++◌, ◌∷◌, ◌+◌, ◌<◌, ◌≤◌, [], suc, length, map, take, drop, OnOk, IfOk, slice_get, Some};
+ghost use Rattle.std.specs.Prelude.{◌≡◌, ◌++◌, ◌∷◌, ◌+◌, ◌<◌, ◌≤◌, [], suc, length, map, take, drop, OnOk, IfOk};
+ghost use Rattle.std.specs.Prelude.{slice_get, Some};
 ghost use Rattle.worklist.specs.Least.{IsFirstLeast};
 
 use crate::Keyed;
@@ -104,7 +105,8 @@ impl<X: Keyed + Drop> Line<X> {
     pub fn least_from(&mut self, place: usize) -> Result<usize, AllocError>
         requires { place < length self.old }
         ensures same { OnOk result (self.new ≡ self.old) }
-        ensures least { IfOk result (λ farther. IsFirstLeast (map (λ element. X.key_of element) (drop place self.old)) farther) }
+        ensures least { IfOk result
+            (λ farther. IsFirstLeast (map (λ element. X.key_of element) (drop place self.old)) farther) }
     {
         part_at(&mut self.earlier, &mut self.later, place)?;
         Ok(least_later(&self.later))

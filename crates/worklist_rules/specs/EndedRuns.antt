@@ -25,7 +25,8 @@ EndsWith system n c (Some fault) = system.fails n c fault
 -- from there a run goes on through the nodes of the trace, and ends so
 pub data Passes {C : Type 0} (system : System C) : ℕ → C → List ℕ → Option RunFault → Type 0 where
   stops : {n : ℕ} {c : C} {fault : Option RunFault} → EndsWith system n c fault → Passes system n c (n ∷ []) fault
-  moves : {n k : ℕ} {c d : C} {trace : List ℕ} {fault : Option RunFault} → system.goes n c k d → Passes system k d trace fault → Passes system n c (n ∷ trace) fault
+  moves : {n k : ℕ} {c d : C} {trace : List ℕ} {fault : Option RunFault} → system.goes n c k d
+      → Passes system k d trace fault → Passes system n c (n ∷ trace) fault
 
 -- the run of moments passes so from its start
 pub record RunEnds {C : Type 0} (system : System C) (run : ℕ → Option (ℕ × C)) : Type 0 where
@@ -42,7 +43,8 @@ FaultIsTold alarms n None = Unit {0}
 FaultIsTold alarms n (Some fault) = has_fault (alarm_at alarms n) fault ≡ true
 
 -- the book sums the trace up, its nodes were stepped, and the fault was told at its last one
-pub record IsSummed {S T R B : Type 0} (z : Recording R B) (w : Pooled S T R B) (trace : List ℕ) (fault : Option RunFault) : Type 0 where
+pub record IsSummed {S T R B : Type 0} (z : Recording R B) (w : Pooled S T R B) (trace : List ℕ)
+    (fault : Option RunFault) : Type 0 where
   pub past : List ℕ
   pub last : ℕ
   pub turned : reverse (last ∷ past) ≡ trace
@@ -52,6 +54,8 @@ pub record IsSummed {S T R B : Type 0} (z : Recording R B) (w : Pooled S T R B) 
   pub told : FaultIsTold w.alarms last fault
 
 -- each run ends, and each run that ends is summed up
-pub record EachIsSummed {S T C R B : Type 0} (machine : S → Machine T C) (z : Recording R B) (w : Pooled S T R B) : Type 0 where
+pub record EachIsSummed {S T C R B : Type 0} (machine : S → Machine T C) (z : Recording R B)
+    (w : Pooled S T R B) : Type 0 where
   pub ends : (run : ℕ → Option (ℕ × C)) → IsRun (machine w.stepper).system run → RunEnds (machine w.stepper).system run
-  pub right : (c : C) (trace : List ℕ) (fault : Option RunFault) → (machine w.stepper).system.starts c → Passes (machine w.stepper).system 0 c trace fault → IsSummed z w trace fault
+  pub right : (c : C) (trace : List ℕ) (fault : Option RunFault) → (machine w.stepper).system.starts c
+      → Passes (machine w.stepper).system 0 c trace fault → IsSummed z w trace fault

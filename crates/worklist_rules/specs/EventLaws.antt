@@ -25,7 +25,8 @@ use Rattle.worklist_rules.specs.StepLaws.{step_kept}
 use Rattle.worklist_rules.specs.MergeLaws.{merge_kept}
 
 module _ {S T C R B : Type 0} (machine : S → Machine T C) (states : Order T) (recorders : Order R) (z : Recording R B) where
-  pub start_kept : (stepper : S) (o : Outlined) → IsMachine T C states (machine stepper) → IsRecording R B recorders z → (machine stepper).kept → IsSuited z o → IsAlong T C (shape_of o) (machine stepper)
+  pub start_kept : (stepper : S) (o : Outlined) → IsMachine T C states (machine stepper) → IsRecording R B recorders z
+      → (machine stepper).kept → IsSuited z o → IsAlong T C (shape_of o) (machine stepper)
       → IsKept machine z (opened machine z stepper o)
   start_kept stepper o machine_laws laws stepper_kept suited along =
       let ok : IsOutline (shape_of o) = suited.kept in
@@ -57,7 +58,8 @@ module _ {S T C R B : Type 0} (machine : S → Machine T C) (states : Order T) (
       }
 
   -- an event keeps it
-  pub event_kept : (old new : Pooled S T R B) (event : Event) → IsOrder T states → IsMachine T C states (machine old.stepper) → IsOrder R recorders → IsRecording R B recorders z
+  pub event_kept : (old new : Pooled S T R B) (event : Event) → IsOrder T states
+      → IsMachine T C states (machine old.stepper) → IsOrder R recorders → IsRecording R B recorders z
       → IsKept machine z old → Happens machine states recorders z old event new → IsKept machine z new
   event_kept old new (Step i) states_laws machine_laws recorders_laws laws kept (spot, found, is) =
       subst (IsKept machine z) (sym is) (step_kept machine states recorders z old i spot machine_laws laws kept found)
@@ -65,12 +67,15 @@ module _ {S T C R B : Type 0} (machine : S → Machine T C) (states : Order T) (
       subst (IsKept machine z) (sym is) (merge_kept machine states recorders z old i j a b machine_laws laws kept first second same states_laws recorders_laws before)
 
   -- it goes on with the same stepper and outline
-  pub event_one_on : (old new : Pooled S T R B) (event : Event) → Happens machine states recorders z old event new → IsOneOn old new
+  pub event_one_on : (old new : Pooled S T R B) (event : Event) → Happens machine states recorders z old event new
+      → IsOneOn old new
   event_one_on old new (Step i) (spot, found, is) = subst (IsOneOn old) (sym is) (record { stepper = refl; outline = refl; steps = omega arith })
   event_one_on old new (Merge i j) (a, b, before, first, second, same, is) = subst (IsOneOn old) (sym is) (record { stepper = refl; outline = refl; steps = omega arith })
 
   -- and so do events one after another
-  pub events_kept : (events : List Event) (old new : Pooled S T R B) → IsOrder T states → ((s : S) → (machine s).kept → IsMachine T C states (machine s)) → IsOrder R recorders → IsRecording R B recorders z
+  pub events_kept : (events : List Event) (old new : Pooled S T R B) → IsOrder T states
+      → ((s : S) → (machine s).kept → IsMachine T C states (machine s)) → IsOrder R recorders
+      → IsRecording R B recorders z
       → IsKept machine z old → HappenAll machine states recorders z old events new → IsKept machine z new
   events_kept [] old new states_laws machine_laws recorders_laws laws kept is = subst (IsKept machine z) (sym is) kept
   events_kept (event ∷ events) old new states_laws machine_laws recorders_laws laws kept (mid, happens, rest) =

@@ -37,7 +37,8 @@ spread_book z o r n b [] = b
 spread_book z o r n b (s ∷ rest) = spread_book z o r n (book_after z o r n b s) rest
 
 -- the places that the successors make, in order
-abbrev pub spread_spots : {T R B : Type 0} → Recording R B → Outlined → List ℕ → R → ℕ → B → List (ℕ × T) → List (Spot T R)
+abbrev pub spread_spots : {T R B : Type 0} → Recording R B → Outlined → List ℕ → R → ℕ → B → List (ℕ × T)
+    → List (Spot T R)
 spread_spots z o position r n b [] = []
 spread_spots z o position r n b (s ∷ rest) = spots_after z o position r n b s ++ spread_spots z o position r n (book_after z o r n b s) rest
 
@@ -59,7 +60,8 @@ opened machine z stepper o =
     }
 
 -- the pool whose place i, the spot, is replaced by its successors
-abbrev pub stepped_at : {S T C R B : Type 0} → (S → Machine T C) → Recording R B → Pooled S T R B → ℕ → Spot T R → Pooled S T R B
+abbrev pub stepped_at : {S T C R B : Type 0} → (S → Machine T C) → Recording R B → Pooled S T R B → ℕ → Spot T R
+    → Pooled S T R B
 stepped_at machine z w i spot =
     let faults = (machine w.stepper).faults spot.node spot.state in
     let next = (machine w.stepper).next spot.node spot.state in
@@ -79,17 +81,20 @@ abbrev pub met : {T R : Type 0} → Order T → Order R → Spot T R → Spot T 
 met states recorders a b = record { node = a.node; position = a.position; state = states.joined a.state b.state; recorder = recorders.joined a.recorder b.recorder }
 
 -- the pool whose place i is the join of itself and place j, which is gone
-abbrev pub merged_at : {S T R B : Type 0} → Order T → Order R → Pooled S T R B → ℕ → ℕ → Spot T R → Spot T R → Pooled S T R B
+abbrev pub merged_at : {S T R B : Type 0} → Order T → Order R → Pooled S T R B → ℕ → ℕ → Spot T R → Spot T R
+    → Pooled S T R B
 merged_at states recorders w i j a b = record w { spots = remove (slice_set w.spots i (met states recorders a b)) j }
 
 -- the event is allowed, and leads from the old pool to the new one
-abbrev pub Happens : {S T C R B : Type 0} → (S → Machine T C) → Order T → Order R → Recording R B → Pooled S T R B → Event → Pooled S T R B → Type 0
+abbrev pub Happens : {S T C R B : Type 0} → (S → Machine T C) → Order T → Order R → Recording R B → Pooled S T R B
+    → Event → Pooled S T R B → Type 0
 Happens {T = T} {R = R} machine states recorders z old (Step i) new = (spot : Spot T R) × (slice_get old.spots i ≡ Some spot) × (new ≡ stepped_at machine z old i spot)
 Happens {T = T} {R = R} machine states recorders z old (Merge i j) new =
     (a : Spot T R) × (b : Spot T R) × (i < j) × (slice_get old.spots i ≡ Some a) × (slice_get old.spots j ≡ Some b) × (a.position ≡ b.position) × (new ≡ merged_at states recorders old i j a b)
 
 -- the events lead, one after another, from the old pool to the new one
-abbrev pub HappenAll : {S T C R B : Type 0} → (S → Machine T C) → Order T → Order R → Recording R B → Pooled S T R B → List Event → Pooled S T R B → Type 0
+abbrev pub HappenAll : {S T C R B : Type 0} → (S → Machine T C) → Order T → Order R → Recording R B → Pooled S T R B
+    → List Event → Pooled S T R B → Type 0
 HappenAll machine states recorders z old [] new = new ≡ old
 HappenAll {S} {T} {R = R} {B = B} machine states recorders z old (event ∷ events) new =
     (mid : Pooled S T R B) × Happens machine states recorders z old event mid × HappenAll machine states recorders z mid events new

@@ -10,7 +10,8 @@ use Rattle.worklist_rules.specs.Pools.{Spot, Pooled}
 use Rattle.worklist_rules.specs.Runs.{EachIsHandled}
 
 -- a place meets the conditions of the calls, after so many steps
-pub record IsPlaced {T C R B : Type 0} (o : Outlined) (m : Machine T C) (z : Recording R B) (steps : ℕ) (spot : Spot T R) : Type 0 where
+pub record IsPlaced {T C R B : Type 0} (o : Outlined) (m : Machine T C) (z : Recording R B) (steps : ℕ)
+    (spot : Spot T R) : Type 0 where
   pub in_range : spot.node < length o.nodes
   pub fits : m.fits spot.node spot.state
   pub is_of : z.is_of o spot.recorder
@@ -19,7 +20,8 @@ pub record IsPlaced {T C R B : Type 0} (o : Outlined) (m : Machine T C) (z : Rec
   pub position_is : IsPosition (shape_of o) spot.node spot.position
   pub low : (t : ℕ) → turn_in (scopes_around (shape_of o) spot.node) spot.position t ≤ steps + 1
 
-pub record IsKept {S T C R B : Type 0} (machine : S → Machine T C) (z : Recording R B) (w : Pooled S T R B) : Type 0 where
+pub record IsKept {S T C R B : Type 0} (machine : S → Machine T C) (z : Recording R B)
+    (w : Pooled S T R B) : Type 0 where
   pub suited : IsSuited z w.outline
   pub stepper : (machine w.stepper).kept
   pub along : IsAlong T C (shape_of w.outline) (machine w.stepper)

@@ -17,7 +17,9 @@ use Rattle.worklist_rules.specs.Kept.{IsPlaced, IsKept}
 use Rattle.worklist_rules.specs.PlaceLaws.{elsewhere, beside_set, from_set, later_as_before, stays_written, from_remove}
 
 -- places of one position stand at one node
-pub one_node : {T C R B : Type 0} (o : Outlined) (m : Machine T C) (z : Recording R B) (steps : ℕ) (a b : Spot T R) → IsOutline (shape_of o) → IsPlaced o m z steps a → IsPlaced o m z steps b → a.position ≡ b.position → a.node ≡ b.node
+pub one_node : {T C R B : Type 0} (o : Outlined) (m : Machine T C) (z : Recording R B) (steps : ℕ) (a b : Spot T R)
+    → IsOutline (shape_of o) → IsPlaced o m z steps a → IsPlaced o m z steps b → a.position ≡ b.position
+    → a.node ≡ b.node
 one_node o m z steps a b ok left right same =
     let long : length (shape_of o).own ≡ length o.nodes = length-map o.nodes (λ row. row.scope) in
     let low_a = left.in_range in let low_b = right.in_range in
@@ -55,7 +57,8 @@ module _ {S T C R B : Type 0} (machine : S → Machine T C) (states : Order T) (
     new = merged_at states recorders w i j a b
 
     -- the join stands for what either place stood for
-    left_stands : (past : List ℕ) (n : ℕ) (c : C) → Stands w.outline m z w.book a past n c → Stands w.outline m z w.book joined past n c
+    left_stands : (past : List ℕ) (n : ℕ) (c : C) → Stands w.outline m z w.book a past n c
+        → Stands w.outline m z w.book joined past n c
     left_stands past n c stands = record {
       node = stands.node;
       position = stands.position;
@@ -64,7 +67,8 @@ module _ {S T C R B : Type 0} (machine : S → Machine T C) (states : Order T) (
       recorder = laws.above_covers w.outline a.recorder joined.recorder w.book (n ∷ past) (recorders_laws.left a.recorder b.recorder alike_at.1) stands.recorder;
     }
 
-    right_stands : (past : List ℕ) (n : ℕ) (c : C) → Stands w.outline m z w.book b past n c → Stands w.outline m z w.book joined past n c
+    right_stands : (past : List ℕ) (n : ℕ) (c : C) → Stands w.outline m z w.book b past n c
+        → Stands w.outline m z w.book joined past n c
     right_stands past n c stands = record {
       node = nodes ∙ stands.node;
       position = same ∙ stands.position;
@@ -77,7 +81,8 @@ module _ {S T C R B : Type 0} (machine : S → Machine T C) (states : Order T) (
     joined_among = stays_written w.spots i j joined a before first
 
     -- a place is one of the two, or stays
-    kept_or_joined : (other : Spot T R) → Contains w.spots other → ((a ≡ other) ⊎ (b ≡ other)) ⊎ Contains new.spots other
+    kept_or_joined : (other : Spot T R) → Contains w.spots other
+        → ((a ≡ other) ⊎ (b ≡ other)) ⊎ Contains new.spots other
     kept_or_joined other among =
         elim (beside_set w.spots i other a joined first among) [
           | inl is_a ↦ inl (inl is_a)

@@ -17,13 +17,15 @@ cases : {X : Type 0} (x y : X) (xs : List X) → Contains (y ∷ xs) x → (y �
 cases x y xs has = elim (contains_cases y xs x has) [ inl e ↦ inl (sym e) | inr more ↦ inr more ]
 
 -- an element is the one at i, or stays when that one makes room for others
-pub elsewhere : {X : Type 0} (xs mid : List X) (i : ℕ) (x y : X) → slice_get xs i ≡ Some y → Contains xs x → (y ≡ x) ⊎ Contains (take i xs ++ (mid ++ drop (suc i) xs)) x
+pub elsewhere : {X : Type 0} (xs mid : List X) (i : ℕ) (x y : X) → slice_get xs i ≡ Some y → Contains xs x
+    → (y ≡ x) ⊎ Contains (take i xs ++ (mid ++ drop (suc i) xs)) x
 elsewhere [] mid i x y at has = no_member x has
 elsewhere (z ∷ xs) mid zero x y at has = elim (cases x z xs has) [ inl same ↦ inl (sym (same_Some z y at) ∙ same) | inr in_rest ↦ inr (Contains-append_right mid xs x in_rest) ]
 elsewhere (z ∷ xs) mid (suc i) x y at has = elim (cases x z xs has) [ inl same ↦ inr (here x z _ same) | inr in_rest ↦ elim (elsewhere xs mid i x y at in_rest) [ inl found ↦ inl found | inr kept ↦ inr (further_member z _ x kept) ] ]
 
 -- what makes room is there
-pub in_room : {X : Type 0} (xs mid : List X) (i : ℕ) (x : X) → Contains mid x → Contains (take i xs ++ (mid ++ drop (suc i) xs)) x
+pub in_room : {X : Type 0} (xs mid : List X) (i : ℕ) (x : X) → Contains mid x
+    → Contains (take i xs ++ (mid ++ drop (suc i) xs)) x
 in_room xs mid i x has = Contains-append_right (take i xs) (mid ++ drop (suc i) xs) x (Contains-append_left mid (drop (suc i) xs) x has)
 
 pub from_take : {X : Type 0} (xs : List X) (i : ℕ) (x : X) → Contains (take i xs) x → Contains xs x
@@ -39,7 +41,8 @@ from_drop (y ∷ xs) zero x has = has
 from_drop (y ∷ xs) (suc i) x has = further_member y xs x (from_drop xs i x has)
 
 -- an element was there, or is one of those that room was made for
-pub from_room : {X : Type 0} (xs mid : List X) (i : ℕ) (x : X) → Contains (take i xs ++ (mid ++ drop (suc i) xs)) x → Contains xs x ⊎ Contains mid x
+pub from_room : {X : Type 0} (xs mid : List X) (i : ℕ) (x : X) → Contains (take i xs ++ (mid ++ drop (suc i) xs)) x
+    → Contains xs x ⊎ Contains mid x
 from_room xs mid i x has =
     elim (Contains-append_cases (take i xs) (mid ++ drop (suc i) xs) x has) [
       | inl front ↦ inl (from_take xs i x front)
@@ -47,7 +50,8 @@ from_room xs mid i x has =
     ]
 
 -- an element is the one at i, or stays when that one is written over
-pub beside_set : {X : Type 0} (xs : List X) (i : ℕ) (x y v : X) → slice_get xs i ≡ Some y → Contains xs x → (y ≡ x) ⊎ Contains (slice_set xs i v) x
+pub beside_set : {X : Type 0} (xs : List X) (i : ℕ) (x y v : X) → slice_get xs i ≡ Some y → Contains xs x
+    → (y ≡ x) ⊎ Contains (slice_set xs i v) x
 beside_set [] i x y v at has = no_member x has
 beside_set (z ∷ xs) zero x y v at has = elim (cases x z xs has) [ inl same ↦ inl (sym (same_Some z y at) ∙ same) | inr in_rest ↦ inr (further_member v xs x in_rest) ]
 beside_set (z ∷ xs) (suc i) x y v at has = elim (cases x z xs has) [ inl same ↦ inr (here x z _ same) | inr in_rest ↦ elim (beside_set xs i x y v at in_rest) [ inl found ↦ inl found | inr kept ↦ inr (further_member z _ x kept) ] ]
@@ -59,7 +63,8 @@ from_set (z ∷ xs) zero x v has = elim (cases x v xs has) [ inl same ↦ inr sa
 from_set (z ∷ xs) (suc i) x v has = elim (cases x z _ has) [ inl same ↦ inl (here x z xs same) | inr rest ↦ elim (from_set xs i x v rest) [ inl old ↦ inl (further_member z xs x old) | inr new ↦ inr new ] ]
 
 -- after a write at i, the element at a later j is as before
-pub later_as_before : {X : Type 0} (xs : List X) (i j : ℕ) (v y : X) → i < j → slice_get xs j ≡ Some y → slice_get (slice_set xs i v) j ≡ Some y
+pub later_as_before : {X : Type 0} (xs : List X) (i j : ℕ) (v y : X) → i < j → slice_get xs j ≡ Some y
+    → slice_get (slice_set xs i v) j ≡ Some y
 later_as_before [] zero j v y below at = at
 later_as_before [] (suc i) j v y below at = at
 later_as_before (z ∷ xs) zero zero v y below at = absurd (omega arith)
@@ -68,7 +73,8 @@ later_as_before (z ∷ xs) (suc i) zero v y below at = absurd (omega arith)
 later_as_before (z ∷ xs) (suc i) (suc j) v y below at = later_as_before xs i j v y (omega arith) at
 
 -- what is written at i stays when a later element is taken out
-pub stays_written : {X : Type 0} (xs : List X) (i j : ℕ) (v y : X) → i < j → slice_get xs i ≡ Some y → Contains (remove (slice_set xs i v) j) v
+pub stays_written : {X : Type 0} (xs : List X) (i j : ℕ) (v y : X) → i < j → slice_get xs i ≡ Some y
+    → Contains (remove (slice_set xs i v) j) v
 stays_written [] i j v y below at = absurd (none-some y at)
 stays_written (z ∷ xs) zero zero v y below at = absurd (omega arith)
 stays_written (z ∷ xs) zero (suc j) v y below at = here v v _ refl
@@ -79,7 +85,8 @@ pub from_remove : {X : Type 0} (xs : List X) (j : ℕ) (x : X) → Contains (rem
 from_remove xs j x has = elim (Contains-append_cases (take j xs) (drop (suc j) xs) x has) [ inl front ↦ from_take xs j x front | inr back ↦ from_drop xs (suc j) x back ]
 
 -- a flag that is set stays set when a flag is set
-pub still_set : {X : Type 0} (xs : List X) (i j : ℕ) (v : X) → slice_get xs j ≡ Some v → slice_get (slice_set xs i v) j ≡ Some v
+pub still_set : {X : Type 0} (xs : List X) (i j : ℕ) (v : X) → slice_get xs j ≡ Some v
+    → slice_get (slice_set xs i v) j ≡ Some v
 still_set [] zero j v at = at
 still_set [] (suc i) j v at = at
 still_set (z ∷ xs) zero zero v at = refl

@@ -29,13 +29,15 @@ IsMergePoint o Joins n = Unit {0}
 
 -- the first place of least position, and the next one of the same position where it stands at a merge point
 pub data IsChoice {T R : Type 0} (o : Shape) (policy : Policy) (spots : List (Spot T R)) : Event → Type 0 where
-  merges : {i j : ℕ} (spot : Spot T R) → IsFirstLeast (positions_of spots) i → slice_get spots i ≡ Some spot → IsMergePoint o policy spot.node
+  merges : {i j : ℕ} (spot : Spot T R) → IsFirstLeast (positions_of spots) i → slice_get spots i ≡ Some spot
+      → IsMergePoint o policy spot.node
       → IsNextSame (positions_of spots) i j → IsChoice o policy spots (Merge i j)
   steps : {i : ℕ} (spot : Spot T R) → IsFirstLeast (positions_of spots) i → slice_get spots i ≡ Some spot
       → (IsMergePoint o policy spot.node → (j : ℕ) → IsNextSame (positions_of spots) i j → ⊥) → IsChoice o policy spots (Step i)
 
 -- the policy's events, until no place is left or so many places were stepped
-abbrev pub IsPolicyRun : {S T C R B : Type 0} → (S → Machine T C) → Order T → Order R → Recording R B → Policy → ℕ → Pooled S T R B → List Event → Pooled S T R B → Type 0
+abbrev pub IsPolicyRun : {S T C R B : Type 0} → (S → Machine T C) → Order T → Order R → Recording R B → Policy → ℕ
+    → Pooled S T R B → List Event → Pooled S T R B → Type 0
 IsPolicyRun machine states recorders z policy turns old [] new = (new ≡ old) × ((old.spots ≡ []) ⊎ (old.steps ≡ turns))
 IsPolicyRun {S} {T} {R = R} {B = B} machine states recorders z policy turns old (event ∷ events) new =
     (old.steps ≢ turns) × IsChoice (shape_of old.outline) policy old.spots event

@@ -20,22 +20,26 @@ use Rattle.worklist_rules.specs.Positions.{ranks_and_turns, position_by, positio
 
 -- ---- numbers along the trace
 
-turns_at : (o : Shape) (n s k m : ℕ) (turns : List ℕ) → m ≡ s + k → k < length turns → get_or (turns_after o n s turns) k 0 ≡ turn_after o n m (get_or turns k 0)
+turns_at : (o : Shape) (n s k m : ℕ) (turns : List ℕ) → m ≡ s + k → k < length turns
+    → get_or (turns_after o n s turns) k 0 ≡ turn_after o n m (get_or turns k 0)
 turns_at o n s k m [] at_place within = absurd (omega arith)
 turns_at o n s zero m (turn ∷ turns) at_place within = let same : m ≡ s = omega arith in rw same refl
 turns_at o n s (suc k) m (turn ∷ turns) at_place within = turns_at o n (s + 1) k m turns (omega arith) (omega arith)
 
-turn_of : (o : Shape) (n t : ℕ) (past : List ℕ) → t < length o.scopes → get_or (turns_of o (n ∷ past)) t 0 ≡ turn_after o n t (get_or (turns_of o past) t 0)
+turn_of : (o : Shape) (n t : ℕ) (past : List ℕ) → t < length o.scopes
+    → get_or (turns_of o (n ∷ past)) t 0 ≡ turn_after o n t (get_or (turns_of o past) t 0)
 turn_of o n t past low = turns_at o n 0 t t (turns_of o past) (omega arith) (let same = length-turns_of o past in omega arith)
 
 -- ---- positions by their numbers
 
 -- a position has the numbers that it is made of
-pub same_turns : (o : Shape) (f g : ℕ → ℕ) (scopes : List ℕ) → ((t : ℕ) → Contains scopes t → f t ≡ g t) → ranks_and_turns o f scopes ≡ ranks_and_turns o g scopes
+pub same_turns : (o : Shape) (f g : ℕ → ℕ) (scopes : List ℕ) → ((t : ℕ) → Contains scopes t → f t ≡ g t)
+    → ranks_and_turns o f scopes ≡ ranks_and_turns o g scopes
 same_turns o f g [] same = refl
 same_turns o f g (t ∷ scopes) same = rw (same t (first_member t scopes), same_turns o f g scopes (λ s there. same s (further_member t scopes s there))) refl
 
-pub turn_found : (o : Shape) (f : ℕ → ℕ) (scopes rest : List ℕ) (t : ℕ) → Contains scopes t → turn_in scopes (ranks_and_turns o f scopes ++ rest) t ≡ f t
+pub turn_found : (o : Shape) (f : ℕ → ℕ) (scopes rest : List ℕ) (t : ℕ) → Contains scopes t
+    → turn_in scopes (ranks_and_turns o f scopes ++ rest) t ≡ f t
 turn_found o f [] rest t there = no_member t there
 turn_found o f (s ∷ scopes) rest t there =
     elim (cases_Bool (t == s)) [
@@ -54,7 +58,8 @@ turn_missing (s ∷ scopes) (rank ∷ turn ∷ position) t none =
     let other : (t == s) ≡ false = ne_eqb t s (λ e. none (subst (λ (k : ℕ). Contains (s ∷ scopes) k) (sym e) (first_member s scopes))) in
     rw other (turn_missing scopes position t (λ there. none (further_member s scopes t there)))
 
-turn_at_most : (o : Shape) (f : ℕ → ℕ) (limit : ℕ) (scopes rest : List ℕ) (t : ℕ) → ((s : ℕ) → f s ≤ limit) → turn_in scopes (ranks_and_turns o f scopes ++ rest) t ≤ limit
+turn_at_most : (o : Shape) (f : ℕ → ℕ) (limit : ℕ) (scopes rest : List ℕ) (t : ℕ) → ((s : ℕ) → f s ≤ limit)
+    → turn_in scopes (ranks_and_turns o f scopes ++ rest) t ≤ limit
 turn_at_most o f limit [] rest t low = omega arith
 turn_at_most o f limit (s ∷ scopes) rest t low =
     elim (cases_Bool (t == s)) [
@@ -63,7 +68,8 @@ turn_at_most o f limit (s ∷ scopes) rest t low =
     ]
 
 -- after an edge that stays in the same scopes each has the number that it had, or one more
-pub position_beside : (o : Shape) (n k : ℕ) (turn : ℕ → ℕ) → scopes_around o n ≡ scopes_around o k → moved_position o n (position_by o turn n) k ≡ position_by o (λ t. entered o k t (turn t)) k
+pub position_beside : (o : Shape) (n k : ℕ) (turn : ℕ → ℕ) → scopes_around o n ≡ scopes_around o k
+    → moved_position o n (position_by o turn n) k ≡ position_by o (λ t. entered o k t (turn t)) k
 position_beside o n k turn same =
     ap (λ (front : List ℕ). front ++ slice_index o.ranks k ∷ [])
     (same_turns o (λ t. entered o k t (turn_in (scopes_around o n) (position_by o turn n) t)) (λ t. entered o k t (turn t)) (scopes_around o k)
@@ -73,7 +79,8 @@ entered_low : (o : Shape) (k t turn : ℕ) → entered o k t turn ≤ turn + 1
 entered_low o k t turn = elim (cases_Bool (is_header o t k)) [ inl header ↦ rw header (omega arith) | inr other ↦ rw other (omega arith) ]
 
 -- the numbers after an edge are at most one more
-pub turns_rise : (o : Shape) (n k limit : ℕ) (position : List ℕ) → ((t : ℕ) → turn_in (scopes_around o n) position t ≤ limit)
+pub turns_rise : (o : Shape) (n k limit : ℕ) (position : List ℕ)
+    → ((t : ℕ) → turn_in (scopes_around o n) position t ≤ limit)
     → (t : ℕ) → turn_in (scopes_around o k) (moved_position o n position k) t ≤ limit + 1
 turns_rise o n k limit position low t =
     turn_at_most o (λ s. entered o k s (turn_in (scopes_around o n) position s)) (limit + 1) (scopes_around o k) (slice_index o.ranks k ∷ []) t
@@ -85,7 +92,8 @@ module _ (o : Shape) (ok : IsOutline o) where
   entered_is k t turn there = rw (is_holder o ok t k ((around_is o ok t k).0 there)) refl
 
   -- the number of a scope in the position at the end of a trace is that of the trace
-  turn_is : (n : ℕ) (past : List ℕ) (t : ℕ) → t < length o.scopes → turn_in (scopes_around o n) (position_of o (n ∷ past)) t ≡ get_or (turns_of o (n ∷ past)) t 0
+  turn_is : (n : ℕ) (past : List ℕ) (t : ℕ) → t < length o.scopes
+      → turn_in (scopes_around o n) (position_of o (n ∷ past)) t ≡ get_or (turns_of o (n ∷ past)) t 0
   turn_is n past t low =
       by_test (is_held o t n)
       (λ held. turn_found o (λ s. slice_index (turns_of o (n ∷ past)) s) (scopes_around o n) (slice_index o.ranks n ∷ []) t ((around_is o ok t n).1 (held_is o ok t n held)))
@@ -94,7 +102,8 @@ module _ (o : Shape) (ok : IsOutline o) where
       ∙ sym (turn_of o n t past low ∙ rw out refl))
 
   -- the position after an edge is that of the trace with one node more
-  pub next_position : (n k : ℕ) (past : List ℕ) → k < length o.own → moved_position o n (position_of o (n ∷ past)) k ≡ position_of o (k ∷ n ∷ past)
+  pub next_position : (n k : ℕ) (past : List ℕ) → k < length o.own
+      → moved_position o n (position_of o (n ∷ past)) k ≡ position_of o (k ∷ n ∷ past)
   next_position n k past low =
       ap (λ (front : List ℕ). front ++ slice_index o.ranks k ∷ [])
       (same_turns o (λ t. entered o k t (turn_in (scopes_around o n) (position_of o (n ∷ past)) t)) (λ t. slice_index (turns_of o (k ∷ n ∷ past)) t) (scopes_around o k)
@@ -133,7 +142,8 @@ module _ (o : Shape) (ok : IsOutline o) where
       ]
 
   -- positions that end with the ranks of their nodes are equal only at one node
-  pub same_node : (n m : ℕ) (before others : List ℕ) → n < length o.own → m < length o.own → before ++ slice_index o.ranks n ∷ [] ≡ others ++ slice_index o.ranks m ∷ [] → n ≡ m
+  pub same_node : (n m : ℕ) (before others : List ℕ) → n < length o.own → m < length o.own
+      → before ++ slice_index o.ranks n ∷ [] ≡ others ++ slice_index o.ranks m ∷ [] → n ≡ m
   same_node n m before others low_n low_m same =
       let turned : slice_index o.ranks n ∷ reverse before ≡ slice_index o.ranks m ∷ reverse others =
       sym (reverse-append before (slice_index o.ranks n ∷ [])) ∙ ap (λ (xs : List ℕ). reverse xs) same ∙ reverse-append others (slice_index o.ranks m ∷ []) in

@@ -10,7 +10,8 @@ use Rattle.domain_core.specs.SystemRuns.{IsRun, trace_to}
 use Rattle.worklist_rules.specs.Runs.{IsHandled, waits, passed, EachIsHandled, EachRun, EachRunIsOver, IsWaited, IsOver, AllStepped}
 
 module _ {S T C R B : Type 0} (m : Machine T C) (z : Recording R B) (w : Pooled S T R B) (run : ℕ → Option (ℕ × C)) (is_run : IsRun m.system run) where
-  follow : {past : List ℕ} {n : ℕ} {c : C} → IsHandled m z w past n c → (k : ℕ) → run k ≡ Some (n, c) → past ≡ trace_to run k → AllStepped w.stepped past → IsWaited m z w run ⊎ IsOver m z w run
+  follow : {past : List ℕ} {n : ℕ} {c : C} → IsHandled m z w past n c → (k : ℕ) → run k ≡ Some (n, c)
+      → past ≡ trace_to run k → AllStepped w.stepped past → IsWaited m z w run ⊎ IsOver m z w run
   follow {past} {n} {c} (waits spot among stands) k here so_far before =
       inl (record {
         moment = k;
@@ -38,12 +39,14 @@ module _ {S T C R B : Type 0} (m : Machine T C) (z : Recording R B) (w : Pooled 
         })
       ]
 
-pub each_run : {S T C R B : Type 0} (machine : S → Machine T C) (z : Recording R B) (w : Pooled S T R B) → EachIsHandled machine z w → EachRun machine z w
+pub each_run : {S T C R B : Type 0} (machine : S → Machine T C) (z : Recording R B) (w : Pooled S T R B)
+    → EachIsHandled machine z w → EachRun machine z w
 each_run machine z w handled run is_run =
     let (c, here, starts) = is_run.first in follow (machine w.stepper) z w run is_run (handled c starts) 0 here refl tt
 
 -- where no place is left, no run is waited for
-pub each_run_is_over : {S T C R B : Type 0} (machine : S → Machine T C) (z : Recording R B) (w : Pooled S T R B) → EachIsHandled machine z w → w.spots ≡ [] → EachRunIsOver machine z w
+pub each_run_is_over : {S T C R B : Type 0} (machine : S → Machine T C) (z : Recording R B) (w : Pooled S T R B)
+    → EachIsHandled machine z w → w.spots ≡ [] → EachRunIsOver machine z w
 each_run_is_over {T = T} {R = R} machine z w handled empty run is_run =
     elim (each_run machine z w handled run is_run) [
       | inl waited ↦ no_member waited.spot (subst (λ (spots : List (Spot T R)). Contains spots waited.spot) empty waited.among)

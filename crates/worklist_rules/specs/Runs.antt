@@ -15,7 +15,8 @@ use Rattle.worklist_rules.specs.Positions.{position_of}
 use Rattle.worklist_rules.specs.Pools.{Spot, Pooled, alarm_at}
 
 -- the place stands at the node with its position, and covers the value and the trace, whose newest node it is
-pub record Stands {T C R B : Type 0} (o : Outlined) (m : Machine T C) (z : Recording R B) (book : B) (spot : Spot T R) (past : List ℕ) (n : ℕ) (c : C) : Type 0 where
+pub record Stands {T C R B : Type 0} (o : Outlined) (m : Machine T C) (z : Recording R B) (book : B) (spot : Spot T R)
+    (past : List ℕ) (n : ℕ) (c : C) : Type 0 where
   pub node : spot.node ≡ n
   pub position : spot.position ≡ position_of (shape_of o) (n ∷ past)
   pub walk : IsTrace (shape_of o) (n ∷ past)
@@ -27,8 +28,10 @@ abbrev pub AllStepped : List Bool → List ℕ → Type 0
 AllStepped stepped [] = Unit {0}
 AllStepped stepped (n ∷ past) = (slice_get stepped n ≡ Some true) × AllStepped stepped past
 
--- at some moment a place stands at the run's point and covers it and its trace so far, and all nodes before were stepped
-pub record IsWaited {S T C R B : Type 0} (m : Machine T C) (z : Recording R B) (w : Pooled S T R B) (run : ℕ → Option (ℕ × C)) : Type 0 where
+-- at some moment a place stands at the run's point and covers it and its trace so far, and all nodes before were
+-- stepped
+pub record IsWaited {S T C R B : Type 0} (m : Machine T C) (z : Recording R B) (w : Pooled S T R B)
+    (run : ℕ → Option (ℕ × C)) : Type 0 where
   pub moment : ℕ
   pub node : ℕ
   pub value : C
@@ -43,7 +46,8 @@ abbrev pub EndsTold : {S T C R B : Type 0} → Machine T C → Pooled S T R B �
 EndsTold m w n c = m.system.ends n c ⊎ ((kind : RunFault) × m.system.fails n c kind × (has_fault (alarm_at w.alarms n) kind ≡ true))
 
 -- the run is over, the book covers its trace, its nodes were stepped, and its fault was told
-pub record IsOver {S T C R B : Type 0} (m : Machine T C) (z : Recording R B) (w : Pooled S T R B) (run : ℕ → Option (ℕ × C)) : Type 0 where
+pub record IsOver {S T C R B : Type 0} (m : Machine T C) (z : Recording R B) (w : Pooled S T R B)
+    (run : ℕ → Option (ℕ × C)) : Type 0 where
   pub last : ℕ
   pub node : ℕ
   pub value : C
@@ -63,9 +67,12 @@ abbrev pub EachRunIsOver : {S T C R B : Type 0} → (S → Machine T C) → Reco
 EachRunIsOver {C = C} machine z w = (run : ℕ → Option (ℕ × C)) → IsRun (machine w.stepper).system run → IsOver (machine w.stepper) z w run
 
 -- each way to go on from the point is waited for, or is over and collected
-pub data IsHandled {S T C R B : Type 0} (m : Machine T C) (z : Recording R B) (w : Pooled S T R B) : List ℕ → ℕ → C → Type 0 where
-  waits : {past : List ℕ} {n : ℕ} {c : C} (spot : Spot T R) → Contains w.spots spot → Stands w.outline m z w.book spot past n c → IsHandled m z w past n c
-  passed : {past : List ℕ} {n : ℕ} {c : C} → IsTrace (shape_of w.outline) (n ∷ past) → slice_get w.stepped n ≡ Some true → ((k : ℕ) (d : C) → m.system.goes n c k d → IsHandled m z w (n ∷ past) k d)
+pub data IsHandled {S T C R B : Type 0} (m : Machine T C) (z : Recording R B)
+    (w : Pooled S T R B) : List ℕ → ℕ → C → Type 0 where
+  waits : {past : List ℕ} {n : ℕ} {c : C} (spot : Spot T R) → Contains w.spots spot
+      → Stands w.outline m z w.book spot past n c → IsHandled m z w past n c
+  passed : {past : List ℕ} {n : ℕ} {c : C} → IsTrace (shape_of w.outline) (n ∷ past) → slice_get w.stepped n ≡ Some true
+      → ((k : ℕ) (d : C) → m.system.goes n c k d → IsHandled m z w (n ∷ past) k d)
       → (m.system.ends n c → z.sums_up w.outline w.book (n ∷ past))
       → ((kind : RunFault) → m.system.fails n c kind → (has_fault (alarm_at w.alarms n) kind ≡ true) × z.sums_up w.outline w.book (n ∷ past)) → IsHandled m z w past n c
 

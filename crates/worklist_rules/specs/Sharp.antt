@@ -27,7 +27,8 @@ pub record HasStepped {S T R B : Type 0} (w : Pooled S T R B) (nodes : List ℕ)
   pub count : w.steps ≡ length nodes
 
 -- the pool has one place, which is exactly at the point
-pub record IsSharpAt {S T C R B : Type 0} (m : Machine T C) (z : Recording R B) (w : Pooled S T R B) (past : List ℕ) (n : ℕ) (c : C) : Type 0 where
+pub record IsSharpAt {S T C R B : Type 0} (m : Machine T C) (z : Recording R B) (w : Pooled S T R B) (past : List ℕ)
+    (n : ℕ) (c : C) : Type 0 where
   pub spot : Spot T R
   pub one : w.spots ≡ spot ∷ []
   pub node : spot.node ≡ n
@@ -45,7 +46,8 @@ EndsSharp m w n c =
     ⊎ ((kind : RunFault) × m.system.fails n c kind × (alarm_at w.alarms n ≡ with_fault no_faults kind) × ((k : ℕ) → k ≢ n → alarm_at w.alarms k ≡ no_faults))
 
 -- no place is left, and exactly the run's own numbers and fault were collected
-pub record IsSharpOver {S T C R B : Type 0} (m : Machine T C) (z : Recording R B) (w : Pooled S T R B) (past : List ℕ) (n : ℕ) (c : C) : Type 0 where
+pub record IsSharpOver {S T C R B : Type 0} (m : Machine T C) (z : Recording R B) (w : Pooled S T R B) (past : List ℕ)
+    (n : ℕ) (c : C) : Type 0 where
   pub none : w.spots ≡ []
   pub walk : IsTrace (shape_of w.outline) (n ∷ past)
   pub book : z.exact w.outline w.book (n ∷ past)

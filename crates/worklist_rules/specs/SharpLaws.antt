@@ -48,7 +48,8 @@ new_may_fault Dead = refl
 new_may_fault Kind = refl
 new_may_fault Pointers = refl
 
-written_elsewhere : {X : Type 0} (xs : List X) (n k : ℕ) (v d : X) → k ≢ n → get_or (slice_set xs n v) k d ≡ get_or xs k d
+written_elsewhere : {X : Type 0} (xs : List X) (n k : ℕ) (v d : X) → k ≢ n
+    → get_or (slice_set xs n v) k d ≡ get_or xs k d
 written_elsewhere [] zero k v d other = refl
 written_elsewhere [] (suc n) k v d other = refl
 written_elsewhere (x ∷ xs) zero zero v d other = absurd (other refl)
@@ -61,7 +62,8 @@ written_here [] n v d low = absurd (omega arith)
 written_here (x ∷ xs) zero v d low = refl
 written_here (x ∷ xs) (suc n) v d low = written_here xs n v d (omega arith)
 
-written_same : {X : Type 0} (xs : List X) (n k : ℕ) (v d : X) → v ≡ d → ((j : ℕ) → get_or xs j d ≡ d) → get_or (slice_set xs n v) k d ≡ d
+written_same : {X : Type 0} (xs : List X) (n k : ℕ) (v d : X) → v ≡ d → ((j : ℕ) → get_or xs j d ≡ d)
+    → get_or (slice_set xs n v) k d ≡ d
 written_same [] zero k v d e quiet = refl
 written_same [] (suc n) k v d e quiet = refl
 written_same (x ∷ xs) zero zero v d e quiet = e
@@ -70,13 +72,15 @@ written_same (x ∷ xs) (suc n) zero v d e quiet = quiet zero
 written_same (x ∷ xs) (suc n) (suc k) v d e quiet = written_same xs n k v d e (λ j. quiet (suc j))
 
 -- nothing more was told
-quiet_after : (alarms : List FaultSet) (n : ℕ) (faults : FaultSet) → faults ≡ no_faults → ((j : ℕ) → alarm_at alarms j ≡ no_faults) → (k : ℕ) → alarm_at (with_alarm alarms n faults) k ≡ no_faults
+quiet_after : (alarms : List FaultSet) (n : ℕ) (faults : FaultSet) → faults ≡ no_faults
+    → ((j : ℕ) → alarm_at alarms j ≡ no_faults) → (k : ℕ) → alarm_at (with_alarm alarms n faults) k ≡ no_faults
 quiet_after alarms n faults none quiet k =
     written_same alarms n k (either (alarm_at alarms n) faults) no_faults (let at_n : alarm_at alarms n ≡ no_faults = quiet n in rw (at_n, none) refl) quiet
 
 -- ---- what was stepped
 
-flag_was : (flags : List Bool) (n k : ℕ) → slice_get (slice_set flags n true) k ≡ Some true → (k ≡ n) ⊎ (slice_get flags k ≡ Some true)
+flag_was : (flags : List Bool) (n k : ℕ) → slice_get (slice_set flags n true) k ≡ Some true
+    → (k ≡ n) ⊎ (slice_get flags k ≡ Some true)
 flag_was [] zero k is = inr is
 flag_was [] (suc n) k is = inr is
 flag_was (f ∷ flags) zero zero is = inl refl
@@ -84,7 +88,8 @@ flag_was (f ∷ flags) zero (suc k) is = inr is
 flag_was (f ∷ flags) (suc n) zero is = inr is
 flag_was (f ∷ flags) (suc n) (suc k) is = elim (flag_was flags n k is) [ inl e ↦ inl (ap suc e) | inr was ↦ inr was ]
 
-all_still : (flags : List Bool) (n : ℕ) (nodes : List ℕ) → AllStepped flags nodes → AllStepped (slice_set flags n true) nodes
+all_still : (flags : List Bool) (n : ℕ) (nodes : List ℕ) → AllStepped flags nodes
+    → AllStepped (slice_set flags n true) nodes
 all_still flags n [] all = tt
 all_still flags n (k ∷ nodes) (here, rest) = (still_set flags n k true here, all_still flags n nodes rest)
 
@@ -108,7 +113,8 @@ no_place : {X : Type 0} (y : X) (i : ℕ) → slice_get [] i ≡ Some y → ⊥
 no_place y i found = cc
 
 module _ {S T C R B : Type 0} (machine : S → Machine T C) (states : Order T) (recorders : Order R) (z : Recording R B) where
-  pub sharp_start : (stepper : S) (o : Outlined) (run : ℕ → Option (ℕ × C)) → IsMachine T C states (machine stepper) → IsRecording R B recorders z → IsSuited z o → IsRun (machine stepper).system run
+  pub sharp_start : (stepper : S) (o : Outlined) (run : ℕ → Option (ℕ × C)) → IsMachine T C states (machine stepper)
+      → IsRecording R B recorders z → IsSuited z o → IsRun (machine stepper).system run
       → ((c d : C) → (machine stepper).system.starts c → (machine stepper).system.starts d → d ≡ c) → IsSharp (machine stepper) z (opened machine z stepper o) run
   sharp_start stepper o run machine_laws laws suited is_run alone =
       let (c, here, starts) = is_run.first in
@@ -159,17 +165,20 @@ module _ {S T C R B : Type 0} (machine : S → Machine T C) (states : Order T) (
     }
 
     -- a step that tells no fault and has one successor
-    book_quiet : m.faults p.spot.node p.spot.state ≡ no_faults → book_at_faults z w.outline p.spot.recorder p.spot.node w.book (m.faults p.spot.node p.spot.state) ≡ w.book
+    book_quiet : m.faults p.spot.node p.spot.state ≡ no_faults
+        → book_at_faults z w.outline p.spot.recorder p.spot.node w.book (m.faults p.spot.node p.spot.state) ≡ w.book
     book_quiet none = rw none refl
 
-    goes_book : (k : ℕ) (u : T) → m.next p.spot.node p.spot.state ≡ (k, u) ∷ [] → m.faults p.spot.node p.spot.state ≡ no_faults → k ≢ length w.outline.nodes
+    goes_book : (k : ℕ) (u : T) → m.next p.spot.node p.spot.state ≡ (k, u) ∷ []
+        → m.faults p.spot.node p.spot.state ≡ no_faults → k ≢ length w.outline.nodes
         → new.book ≡ z.gone_book w.outline p.spot.recorder w.book p.spot.node k
     goes_book k u follows none node =
         ap (λ (b : B). spread_book z w.outline p.spot.recorder p.spot.node b (m.next p.spot.node p.spot.state)) (book_quiet none)
         ∙ ap (λ (next : List (ℕ × T)). spread_book z w.outline p.spot.recorder p.spot.node w.book next) follows
         ∙ (let test : (k == length w.outline.nodes) ≡ false = ne_eqb k (length w.outline.nodes) node in rw test refl)
 
-    goes_spots : (k : ℕ) (u : T) → m.next p.spot.node p.spot.state ≡ (k, u) ∷ [] → m.faults p.spot.node p.spot.state ≡ no_faults → k ≢ length w.outline.nodes
+    goes_spots : (k : ℕ) (u : T) → m.next p.spot.node p.spot.state ≡ (k, u) ∷ []
+        → m.faults p.spot.node p.spot.state ≡ no_faults → k ≢ length w.outline.nodes
         → new.spots ≡ next_spot z w.outline p.spot.position p.spot.recorder p.spot.node w.book (k, u) ∷ []
     goes_spots k u follows none node =
         ap (λ (xs : List (Spot T R)). take 0 xs ++ (spread_spots z w.outline p.spot.position p.spot.recorder p.spot.node (book_at_faults z w.outline p.spot.recorder p.spot.node w.book (m.faults p.spot.node p.spot.state)) (m.next p.spot.node p.spot.state) ++ drop 1 xs)) p.one
@@ -226,7 +235,8 @@ module _ {S T C R B : Type 0} (machine : S → Machine T C) (states : Order T) (
           stepped = stepped_now;
         }
 
-    told_at : (kind : RunFault) → m.faults p.spot.node p.spot.state ≡ with_fault no_faults kind → alarm_at new.alarms n ≡ with_fault no_faults kind
+    told_at : (kind : RunFault) → m.faults p.spot.node p.spot.state ≡ with_fault no_faults kind
+        → alarm_at new.alarms n ≡ with_fault no_faults kind
     told_at kind is =
         subst (λ (j : ℕ). alarm_at (with_alarm w.alarms p.spot.node (m.faults p.spot.node p.spot.state)) j ≡ with_fault no_faults kind) p.node
         (written_here w.alarms p.spot.node (either (alarm_at w.alarms p.spot.node) (m.faults p.spot.node p.spot.state)) no_faults (let told = kept.told in let low = placed.in_range in omega arith)
@@ -255,7 +265,9 @@ module _ {S T C R B : Type 0} (machine : S → Machine T C) (states : Order T) (
           stepped = stepped_now;
         }
 
-  sharp_step : (w : Pooled S T R B) (run : ℕ → Option (ℕ × C)) (k n : ℕ) (c : C) → IsMachine T C states (machine w.stepper) → IsRecording R B recorders z → IsKept machine z w → IsRun (machine w.stepper).system run
+  sharp_step : (w : Pooled S T R B) (run : ℕ → Option (ℕ × C)) (k n : ℕ) (c : C)
+      → IsMachine T C states (machine w.stepper) → IsRecording R B recorders z → IsKept machine z w
+      → IsRun (machine w.stepper).system run
       → run k ≡ Some (n, c) → (p : IsSharpAt (machine w.stepper) z w (trace_to run k) n c) → IsSharp (machine w.stepper) z (stepped_at machine z w 0 p.spot) run
   sharp_step w run k n c machine_laws laws kept is_run here p =
       elim (is_run.on k n c here) [
@@ -284,7 +296,8 @@ module _ {S T C R B : Type 0} (machine : S → Machine T C) (states : Order T) (
       ]
 
   -- an event keeps a sharp pool sharp
-  pub sharp_event : (w new : Pooled S T R B) (run : ℕ → Option (ℕ × C)) (event : Event) → IsMachine T C states (machine w.stepper) → IsRecording R B recorders z → IsKept machine z w
+  pub sharp_event : (w new : Pooled S T R B) (run : ℕ → Option (ℕ × C)) (event : Event)
+      → IsMachine T C states (machine w.stepper) → IsRecording R B recorders z → IsKept machine z w
       → IsRun (machine w.stepper).system run → IsSharp (machine w.stepper) z w run → Happens machine states recorders z w event new → IsSharp (machine w.stepper) z new run
   sharp_event w new run (Step i) machine_laws laws kept is_run (inl (k, n, c, here, p)) (spot, found, is) =
       let one = only_place p.spot spot i (subst (λ (xs : List (Spot T R)). slice_get xs i ≡ Some spot) p.one found) in
@@ -300,12 +313,14 @@ module _ {S T C R B : Type 0} (machine : S → Machine T C) (states : Order T) (
   sharp_event w new run (Merge i j) machine_laws laws kept is_run (inr (k, n, c, here, over, p)) (a, b, before, first, second, same, is) =
       absurd (no_place b j (subst (λ (xs : List (Spot T R)). slice_get xs j ≡ Some b) p.none second))
 
-  stepper_same : (w after : Pooled S T R B) (event : Event) → Happens machine states recorders z w event after → after.stepper ≡ w.stepper
+  stepper_same : (w after : Pooled S T R B) (event : Event) → Happens machine states recorders z w event after
+      → after.stepper ≡ w.stepper
   stepper_same w after (Step i) (spot, found, is) = ap (λ (v : Pooled S T R B). v.stepper) is
   stepper_same w after (Merge i j) (a, b, before, first, second, same, is) = ap (λ (v : Pooled S T R B). v.stepper) is
 
   -- and so do events one after another
-  pub sharp_events : (events : List Event) (stepper : S) (w after : Pooled S T R B) (run : ℕ → Option (ℕ × C)) → w.stepper ≡ stepper → IsOrder T states → ((s : S) → (machine s).kept → IsMachine T C states (machine s))
+  pub sharp_events : (events : List Event) (stepper : S) (w after : Pooled S T R B) (run : ℕ → Option (ℕ × C))
+      → w.stepper ≡ stepper → IsOrder T states → ((s : S) → (machine s).kept → IsMachine T C states (machine s))
       → IsOrder R recorders → IsRecording R B recorders z → IsKept machine z w → IsRun (machine stepper).system run → IsSharp (machine stepper) z w run → HappenAll machine states recorders z w events after
       → IsSharp (machine stepper) z after run
   sharp_events [] stepper w after run its states_laws machine_laws recorders_laws laws kept is_run sharp is =

@@ -32,7 +32,8 @@ or_left : (a b : Bool) → a ≡ true → a || b ≡ true
 or_left a b e = rw e refl
 
 -- what was told at a node stays told
-told_after : (sets : List FaultSet) (i j : ℕ) (v : FaultSet) (fault : RunFault) → (has_fault (get_or sets i no_faults) fault ≡ true → has_fault v fault ≡ true)
+told_after : (sets : List FaultSet) (i j : ℕ) (v : FaultSet) (fault : RunFault)
+    → (has_fault (get_or sets i no_faults) fault ≡ true → has_fault v fault ≡ true)
     → has_fault (get_or sets j no_faults) fault ≡ true → has_fault (get_or (slice_set sets i v) j no_faults) fault ≡ true
 told_after [] zero j v fault stays has = has
 told_after [] (suc i) j v fault stays has = has
@@ -41,7 +42,8 @@ told_after (set ∷ sets) zero (suc j) v fault stays has = has
 told_after (set ∷ sets) (suc i) zero v fault stays has = has
 told_after (set ∷ sets) (suc i) (suc j) v fault stays has = told_after sets i j v fault stays has
 
-pub still_told : (alarms : List FaultSet) (n m : ℕ) (faults : FaultSet) (kind : RunFault) → has_fault (alarm_at alarms m) kind ≡ true → has_fault (alarm_at (with_alarm alarms n faults) m) kind ≡ true
+pub still_told : (alarms : List FaultSet) (n m : ℕ) (faults : FaultSet) (kind : RunFault)
+    → has_fault (alarm_at alarms m) kind ≡ true → has_fault (alarm_at (with_alarm alarms n faults) m) kind ≡ true
 still_told alarms n m faults kind has =
     told_after alarms n m (either (alarm_at alarms n) faults) kind (λ was. is_united (alarm_at alarms n) faults kind ∙ or_left (has_fault (alarm_at alarms n) kind) (has_fault faults kind) was) has
 
@@ -51,7 +53,8 @@ set_here [] n v low = absurd (omega arith)
 set_here (set ∷ sets) zero v low = refl
 set_here (set ∷ sets) (suc n) v low = set_here sets n v (omega arith)
 
-pub now_told : (alarms : List FaultSet) (n : ℕ) (faults : FaultSet) (kind : RunFault) → n < length alarms → has_fault faults kind ≡ true → has_fault (alarm_at (with_alarm alarms n faults) n) kind ≡ true
+pub now_told : (alarms : List FaultSet) (n : ℕ) (faults : FaultSet) (kind : RunFault) → n < length alarms
+    → has_fault faults kind ≡ true → has_fault (alarm_at (with_alarm alarms n faults) n) kind ≡ true
 now_told alarms n faults kind low has =
     ap (λ (set : FaultSet). has_fault set kind) (set_here alarms n (either (alarm_at alarms n) faults) low)
     ∙ is_united (alarm_at alarms n) faults kind ∙ or_right (has_fault (alarm_at alarms n) kind) (has_fault faults kind) has
@@ -59,7 +62,8 @@ now_told alarms n faults kind low has =
 -- ---- the book where a node may fault
 
 module _ {R B : Type 0} (order : Order R) (z : Recording R B) (laws : IsRecording R B order z) (o : Outlined) (r : R) (n : ℕ) (b : B) (mine : IsOf z o r b) (in_range : n < length o.nodes) where
-  pub faults_of : (faults : FaultSet) → z.book_is_of o (book_at_faults z o r n b faults) × z.grows b (book_at_faults z o r n b faults)
+  pub faults_of : (faults : FaultSet)
+      → z.book_is_of o (book_at_faults z o r n b faults) × z.grows b (book_at_faults z o r n b faults)
   faults_of faults =
       elim (cases_Bool (may_fault faults)) [
         | inl some ↦ rw some (laws.finished_is_of o r b n mine in_range, laws.finished_grows o r b n mine in_range)
@@ -67,7 +71,8 @@ module _ {R B : Type 0} (order : Order R) (z : Recording R B) (laws : IsRecordin
       ]
 
   -- a fault leaves the trace collected
-  pub faults_sum : (faults : FaultSet) (kind : RunFault) (past : List ℕ) → IsTrace (shape_of o) (n ∷ past) → z.covers o r b (n ∷ past) → has_fault faults kind ≡ true
+  pub faults_sum : (faults : FaultSet) (kind : RunFault) (past : List ℕ) → IsTrace (shape_of o) (n ∷ past)
+      → z.covers o r b (n ∷ past) → has_fault faults kind ≡ true
       → z.sums_up o (book_at_faults z o r n b faults) (n ∷ past)
   faults_sum faults kind past walk covered has = rw (some_fault faults kind has) (laws.finished_covers o r b n past mine walk covered)
 
@@ -121,11 +126,13 @@ module _ {S T C R B : Type 0} (machine : S → Machine T C) (states : Order T) (
   grown : z.grows w.book new.book
   grown = laws.grows_farther w.book mid new.book mid_of.1 new_of.1
 
-  mid_covers : (past : List ℕ) (c : C) → Stands o m z w.book spot past spot.node c → z.covers o spot.recorder mid (spot.node ∷ past)
+  mid_covers : (past : List ℕ) (c : C) → Stands o m z w.book spot past spot.node c
+      → z.covers o spot.recorder mid (spot.node ∷ past)
   mid_covers past c stands = laws.covers_grown o spot.recorder w.book mid (spot.node ∷ past) mid_of.1 stands.recorder
 
   -- a concrete step leads to a new place
-  way_on : (past : List ℕ) (c : C) (k : ℕ) (d : C) → Stands o m z w.book spot past spot.node c → m.system.goes spot.node c k d → IsHandled m z new (spot.node ∷ past) k d
+  way_on : (past : List ℕ) (c : C) (k : ℕ) (d : C) → Stands o m z w.book spot past spot.node c
+      → m.system.goes spot.node c k d → IsHandled m z new (spot.node ∷ past) k d
   way_on past c k d stands step =
       let (edge, low) = kept.along.goes_along spot.node k c d step in
       let (u, has, covered) = machine_laws.next_covers spot.node k spot.state c d placed.fits stands.state step in
@@ -193,7 +200,8 @@ module _ {S T C R B : Type 0} (machine : S → Machine T C) (states : Order T) (
         low = λ t. let low = was.low t in omega arith;
       }
 
-  made_placed : (other : Spot T R) → IsFrom z o spot.position spot.node next (z.length_of spot.recorder + 1) other → IsPlaced o m z (w.steps + 1) other
+  made_placed : (other : Spot T R) → IsFrom z o spot.position spot.node next (z.length_of spot.recorder + 1) other
+      → IsPlaced o m z (w.steps + 1) other
   made_placed other from =
       let node : other.node ≡ from.source.0 = from.node in
       let long = from.long in let limit = placed.long in

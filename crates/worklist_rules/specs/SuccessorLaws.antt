@@ -19,15 +19,19 @@ use Rattle.worklist_rules.specs.Events.{next_spot, book_after, spots_after, spre
 use Rattle.worklist_rules.specs.Successors.{IsMade, IsFrom, AreAlong}
 
 -- what is along holds of the first and of the others
-pub along_first : {T : Type 0} (o : Outlined) (n : ℕ) (s : ℕ × T) (next : List (ℕ × T)) → AreAlong o n (s ∷ next) → s.0 ≢ length o.nodes → Contains o.edges (n, s.0) × (s.0 < length o.nodes)
+pub along_first : {T : Type 0} (o : Outlined) (n : ℕ) (s : ℕ × T) (next : List (ℕ × T)) → AreAlong o n (s ∷ next)
+    → s.0 ≢ length o.nodes → Contains o.edges (n, s.0) × (s.0 < length o.nodes)
 along_first o n s next along node = along s (first_member s next) node
 
-pub along_rest : {T : Type 0} (o : Outlined) (n : ℕ) (s : ℕ × T) (next : List (ℕ × T)) → AreAlong o n (s ∷ next) → AreAlong o n next
+pub along_rest : {T : Type 0} (o : Outlined) (n : ℕ) (s : ℕ × T) (next : List (ℕ × T)) → AreAlong o n (s ∷ next)
+    → AreAlong o n next
 along_rest o n s next along = λ t has. along t (further_member s next t has)
 
 module _ {T R B : Type 0} (order : Order R) (z : Recording R B) (o : Outlined) (r : R) (n : ℕ) (laws : IsRecording R B order z) (suited : IsSuited z o) (mine : z.is_of o r) (in_range : n < length o.nodes) where
   -- one successor: the book stays one of the outline, and grows
-  pub after_of : (b : B) (s : ℕ × T) → z.book_is_of o b → (s.0 ≢ length o.nodes → Contains o.edges (n, s.0) × (s.0 < length o.nodes)) → z.book_is_of o (book_after z o r n b s) × z.grows b (book_after z o r n b s)
+  pub after_of : (b : B) (s : ℕ × T) → z.book_is_of o b
+      → (s.0 ≢ length o.nodes → Contains o.edges (n, s.0) × (s.0 < length o.nodes))
+      → z.book_is_of o (book_after z o r n b s) × z.grows b (book_after z o r n b s)
   after_of b s its along =
       elim (cases_Bool (s.0 == length o.nodes)) [
         | inl at_end ↦ rw at_end (laws.finished_is_of o r b n (record { suited = suited; recorder = mine; book = its }) in_range, laws.finished_grows o r b n (record { suited = suited; recorder = mine; book = its }) in_range)
@@ -36,7 +40,8 @@ module _ {T R B : Type 0} (order : Order R) (z : Recording R B) (o : Outlined) (
             rw at_node ((laws.gone_is_of o r b n s.0 (record { suited = suited; recorder = mine; book = its }) edge low).book, laws.gone_grows o r b n s.0 (record { suited = suited; recorder = mine; book = its }) edge low)
       ]
 
-  pub spread_of : (next : List (ℕ × T)) (b : B) → z.book_is_of o b → AreAlong o n next → z.book_is_of o (spread_book z o r n b next) × z.grows b (spread_book z o r n b next)
+  pub spread_of : (next : List (ℕ × T)) (b : B) → z.book_is_of o b → AreAlong o n next
+      → z.book_is_of o (spread_book z o r n b next) × z.grows b (spread_book z o r n b next)
   spread_of [] b its along = (its, laws.grows_itself b)
   spread_of (s ∷ next) b its along =
       let one = after_of b s its (along_first o n s next along) in
@@ -44,7 +49,8 @@ module _ {T R B : Type 0} (order : Order R) (z : Recording R B) (o : Outlined) (
       (rest.0, laws.grows_farther b (book_after z o r n b s) (spread_book z o r n (book_after z o r n b s) next) one.1 rest.1)
 
   -- a successor at the end of runs leaves the trace collected
-  pub spread_ends : (next : List (ℕ × T)) (b : B) (past : List ℕ) (u : T) → z.book_is_of o b → AreAlong o n next → IsTrace (shape_of o) (n ∷ past) → z.covers o r b (n ∷ past)
+  pub spread_ends : (next : List (ℕ × T)) (b : B) (past : List ℕ) (u : T) → z.book_is_of o b → AreAlong o n next
+      → IsTrace (shape_of o) (n ∷ past) → z.covers o r b (n ∷ past)
       → Contains next (length o.nodes, u) → z.sums_up o (spread_book z o r n b next) (n ∷ past)
   spread_ends [] b past u its along walk covered has = no_member (length o.nodes, u) has
   spread_ends (s ∷ next) b past u its along walk covered has =
@@ -58,7 +64,8 @@ module _ {T R B : Type 0} (order : Order R) (z : Recording R B) (o : Outlined) (
         | inr later ↦ spread_ends next (book_after z o r n b s) past u one.0 (along_rest o n s next along) walk (laws.covers_grown o r b (book_after z o r n b s) (n ∷ past) one.1 covered) later
       ]
 
-  finds_here : (s : ℕ × T) (next : List (ℕ × T)) (b : B) (position past : List ℕ) → z.book_is_of o b → AreAlong o n (s ∷ next) → IsTrace (shape_of o) (s.0 ∷ n ∷ past) → z.covers o r b (n ∷ past)
+  finds_here : (s : ℕ × T) (next : List (ℕ × T)) (b : B) (position past : List ℕ) → z.book_is_of o b
+      → AreAlong o n (s ∷ next) → IsTrace (shape_of o) (s.0 ∷ n ∷ past) → z.covers o r b (n ∷ past)
       → s.0 ≢ length o.nodes → (spot : Spot T R) × Contains (spread_spots z o position r n b (s ∷ next)) spot × IsMade z o position n past (spread_book z o r n b (s ∷ next)) s spot
   finds_here s next b position past its along walk covered node =
       let at_node : (s.0 == length o.nodes) ≡ false = ne_eqb s.0 (length o.nodes) node in
@@ -78,7 +85,8 @@ module _ {T R B : Type 0} (order : Order R) (z : Recording R B) (o : Outlined) (
       )
 
   -- each other one makes a place
-  pub spread_finds : (next : List (ℕ × T)) (b : B) (position past : List ℕ) (s : ℕ × T) → z.book_is_of o b → AreAlong o n next → IsTrace (shape_of o) (s.0 ∷ n ∷ past) → z.covers o r b (n ∷ past)
+  pub spread_finds : (next : List (ℕ × T)) (b : B) (position past : List ℕ) (s : ℕ × T) → z.book_is_of o b
+      → AreAlong o n next → IsTrace (shape_of o) (s.0 ∷ n ∷ past) → z.covers o r b (n ∷ past)
       → s.0 ≢ length o.nodes → Contains next s → (spot : Spot T R) × Contains (spread_spots z o position r n b next) spot × IsMade z o position n past (spread_book z o r n b next) s spot
   spread_finds [] b position past s its along walk covered node has = no_member s has
   spread_finds (t ∷ next) b position past s its along walk covered node has =
@@ -93,7 +101,8 @@ module _ {T R B : Type 0} (order : Order R) (z : Recording R B) (o : Outlined) (
             (found.0, Contains-append_right (spots_after z o position r n b t) (spread_spots z o position r n (book_after z o r n b t) next) found.0 found.1, found.2)
       ]
 
-  from_node : (s : ℕ × T) (next : List (ℕ × T)) (b : B) (position : List ℕ) (spot : Spot T R) → z.book_is_of o b → AreAlong o n (s ∷ next) → s.0 ≢ length o.nodes
+  from_node : (s : ℕ × T) (next : List (ℕ × T)) (b : B) (position : List ℕ) (spot : Spot T R) → z.book_is_of o b
+      → AreAlong o n (s ∷ next) → s.0 ≢ length o.nodes
       → Contains (next_spot z o position r n b s ∷ []) spot → IsFrom z o position n (s ∷ next) (z.length_of r + 1) spot
   from_node s next b position spot its along node has =
       let (edge, low) = along_first o n s next along node in
@@ -111,7 +120,8 @@ module _ {T R B : Type 0} (order : Order R) (z : Recording R B) (o : Outlined) (
         | inr none ↦ no_member spot none
       ]
 
-  from_here : (s : ℕ × T) (next : List (ℕ × T)) (b : B) (position : List ℕ) (spot : Spot T R) → z.book_is_of o b → AreAlong o n (s ∷ next)
+  from_here : (s : ℕ × T) (next : List (ℕ × T)) (b : B) (position : List ℕ) (spot : Spot T R) → z.book_is_of o b
+      → AreAlong o n (s ∷ next)
       → Contains (spots_after z o position r n b s) spot → IsFrom z o position n (s ∷ next) (z.length_of r + 1) spot
   from_here s next b position spot its along has =
       elim (cases_Bool (s.0 == length o.nodes)) [
@@ -120,7 +130,8 @@ module _ {T R B : Type 0} (order : Order R) (z : Recording R B) (o : Outlined) (
       ]
 
   -- each place that is made comes from a successor
-  pub spread_from : (next : List (ℕ × T)) (b : B) (position : List ℕ) (spot : Spot T R) → z.book_is_of o b → AreAlong o n next
+  pub spread_from : (next : List (ℕ × T)) (b : B) (position : List ℕ) (spot : Spot T R) → z.book_is_of o b
+      → AreAlong o n next
       → Contains (spread_spots z o position r n b next) spot → IsFrom z o position n next (z.length_of r + 1) spot
   spread_from [] b position spot its along has = no_member spot has
   spread_from (s ∷ next) b position spot its along has =

@@ -6,14 +6,16 @@ use Rattle.worklist_rules.specs.Positions.{moved_position}
 use Rattle.worklist_rules.specs.Pools.{Spot}
 
 -- a place that a successor makes: it covers what the stepped place covers and one node more
-pub record IsMade {T R B : Type 0} (z : Recording R B) (o : Outlined) (position : List ℕ) (n : ℕ) (past : List ℕ) (book : B) (s : ℕ × T) (spot : Spot T R) : Type 0 where
+pub record IsMade {T R B : Type 0} (z : Recording R B) (o : Outlined) (position : List ℕ) (n : ℕ) (past : List ℕ)
+    (book : B) (s : ℕ × T) (spot : Spot T R) : Type 0 where
   pub node : spot.node ≡ s.0
   pub position_is : spot.position ≡ moved_position (shape_of o) n position s.0
   pub state : spot.state ≡ s.1
   pub recorder : z.covers o spot.recorder book (s.0 ∷ n ∷ past)
 
 -- where a place comes from
-pub record IsFrom {T R B : Type 0} (z : Recording R B) (o : Outlined) (position : List ℕ) (n : ℕ) (next : List (ℕ × T)) (limit : ℕ) (spot : Spot T R) : Type 0 where
+pub record IsFrom {T R B : Type 0} (z : Recording R B) (o : Outlined) (position : List ℕ) (n : ℕ) (next : List (ℕ × T))
+    (limit : ℕ) (spot : Spot T R) : Type 0 where
   pub source : ℕ × T
   pub among : Contains next source
   pub no_end : source.0 ≢ length o.nodes

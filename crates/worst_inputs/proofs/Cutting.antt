@@ -36,17 +36,20 @@ module _ {A : Type 0} (f : A → ℕ) (xs : List A) (place : ℕ) (first : IsFir
   }
 
 -- another element at the place
-pub set_parts : {A : Type 0} (xs : List A) (place : ℕ) (a : A) → place < length xs → set xs place a ≡ take place xs ++ a ∷ drop (place + 1) xs
+pub set_parts : {A : Type 0} (xs : List A) (place : ℕ) (a : A) → place < length xs
+    → set xs place a ≡ take place xs ++ a ∷ drop (place + 1) xs
 set_parts xs place a low = set_split xs place a low ∙ ap (λ (n : ℕ). take place xs ++ a ∷ drop n xs) (sym (add-one place))
 
 -- two elements at the place
-pub two_parts : {A : Type 0} (xs : List A) (place : ℕ) (a b : A) → place < length xs → insert (set xs place a) (place + 1) b ≡ take place xs ++ a ∷ b ∷ drop (place + 1) xs
+pub two_parts : {A : Type 0} (xs : List A) (place : ℕ) (a b : A) → place < length xs
+    → insert (set xs place a) (place + 1) b ≡ take place xs ++ a ∷ b ∷ drop (place + 1) xs
 two_parts xs place a b low =
     rw (take_more_set xs place a low, drop-set-lt (place + 1) xs place a (omega arith), append_assoc (take place xs) (a ∷ []) (b ∷ drop (place + 1) xs)) refl
 
 -- ---- halves
 
-pub made_halves : (area : Area) (place : ℕ) (first : IsFirstAt width_of area place) (range low_range high_range : Range) → range ≡ first.x → AreHalved range low_range high_range
+pub made_halves : (area : Area) (place : ℕ) (first : IsFirstAt width_of area place) (range low_range high_range : Range)
+    → range ≡ first.x → AreHalved range low_range high_range
     → (lower upper : Area) → lower ≡ slice_set area place low_range → upper ≡ slice_set area place high_range → AreHalves area lower upper
 made_halves area place first range low_range high_range same half lower upper low_is high_is =
     let low = within width_of area place first in
@@ -66,7 +69,8 @@ module _ (boxes : List Box) (place : ℕ) (first : IsFirstAt bound_of boxes plac
   pub ranges_here : HaveRanges boxes → All IsRange first.x.area
   ranges_here have = All-contains (λ (box : Box). All IsRange box.area) boxes first.x have.each (contained boxes place first.x first.at)
 
-  pub cut_here : (area lower upper : Area) → area ≡ first.x.area → AreHalves area lower upper → IsCutAt boxes place lower upper
+  pub cut_here : (area lower upper : Area) → area ≡ first.x.area → AreHalves area lower upper
+      → IsCutAt boxes place lower upper
   cut_here area lower upper here are =
       let halves : AreHalves first.x.area lower upper = subst (λ (a : Area). AreHalves a lower upper) here are in
       record {
@@ -98,7 +102,8 @@ module _ (answers : Answers) (boxes : List Box) (place : ℕ) (lower upper : Are
   lower_stopped (LeftIn scope) left = record { cut = at.cut; left = inl (subst (λ (a : Area). answers a (Left scope)) at.lower_is left) }
   lower_stopped Memory left = tt
 
-  pub upper_stopped : (bound : ℕ) → answers lower (At bound) → (fault : SearchFault) → IsLeftOf answers upper fault → IsStoppedBy answers boxes fault
+  pub upper_stopped : (bound : ℕ) → answers lower (At bound) → (fault : SearchFault) → IsLeftOf answers upper fault
+      → IsStoppedBy answers boxes fault
   upper_stopped bound is (LeftIn scope) left = record {
     cut = at.cut;
     left = inr (bound, subst (λ (a : Area). answers a (At bound)) at.lower_is is, subst (λ (a : Area). answers a (Left scope)) at.upper_is left);
@@ -106,7 +111,8 @@ module _ (answers : Answers) (boxes : List Box) (place : ℕ) (lower upper : Are
   upper_stopped bound is Memory left = tt
 
   -- two bounds split the boxes
-  pub split_here : (low high : Box) (next : List Box) → low.area ≡ lower → high.area ≡ upper → answers lower (At low.bound) → answers upper (At high.bound)
+  pub split_here : (low high : Box) (next : List Box) → low.area ≡ lower → high.area ≡ upper
+      → answers lower (At low.bound) → answers upper (At high.bound)
       → next ≡ take place boxes ++ low ∷ high ∷ drop (place + 1) boxes → IsSplit answers boxes next
   split_here low high next low_area high_area at_low at_high is = record {
     cut = at.cut;

@@ -55,13 +55,16 @@ module _ (area : Area) (halves : Halves area) (ranges : All IsRange area) (more 
   pub upper_part : IsPart area (upper_of halves)
   upper_part = subst (λ (a : Area). IsPart a (upper_of halves)) (sym halves.widest.is) (part_at halves.before halves.range (record { low = halves.middle +ℤ pos 1; high = halves.range.high }) halves.after whole upper_range)
 
-  one_of_two : (number : ℤ) → IsIn halves.range number → IsIn (record { low = halves.range.low; high = halves.middle }) number ⊎ IsIn (record { low = halves.middle +ℤ pos 1; high = halves.range.high }) number
+  one_of_two : (number : ℤ) → IsIn halves.range number
+      → IsIn (record { low = halves.range.low; high = halves.middle }) number
+      ⊎ IsIn (record { low = halves.middle +ℤ pos 1; high = halves.range.high }) number
   one_of_two number within = by_lt_z halves.middle number
       (λ over. inr (record { least = omega (arith, ints); most = within.most }))
       (λ under. inl (record { least = within.least; most = under }))
 
   -- each input is inside one of them
-  pub inside_one : (input : List ℤ) → IsInside area input → IsInside (lower_of halves) input ⊎ IsInside (upper_of halves) input
+  pub inside_one : (input : List ℤ) → IsInside area input
+      → IsInside (lower_of halves) input ⊎ IsInside (upper_of halves) input
   inside_one input within =
       inside_at halves.before halves.range (record { low = halves.range.low; high = halves.middle }) (record { low = halves.middle +ℤ pos 1; high = halves.range.high }) halves.after one_of_two input
       (subst (λ (a : Area). IsInside a input) halves.widest.is within)

@@ -24,7 +24,8 @@ pub record AreSame {A : Type 0} (front other : List A) (x y : A) (rest another :
   pub rests : rest ≡ another
 
 module _ {A : Type 0} (f : A → ℕ) (most : ℕ) where
-  parted_once : (front other : List A) (x y : A) (rest another : List A) → front ++ x ∷ rest ≡ other ++ y ∷ another → f x ≡ most → f y ≡ most
+  parted_once : (front other : List A) (x y : A) (rest another : List A) → front ++ x ∷ rest ≡ other ++ y ∷ another
+      → f x ≡ most → f y ≡ most
       → All (λ z. f z ≢ most) front → All (λ z. f z ≢ most) other → AreSame front other x y rest another
   parted_once [] [] x y rest another e fx fy h k = record { fronts = refl; it = cc; rests = cc }
   parted_once [] (z ∷ other) x y rest another e fx fy h k = let same : x ≡ z = cc in absurd (All-head (λ z. f z ≢ most) z other k (ap f (sym same) ∙ fx))
@@ -35,7 +36,8 @@ module _ {A : Type 0} (f : A → ℕ) (most : ℕ) where
       let more = parted_once front other x y rest another tails fx fy (All-tail (λ z. f z ≢ most) z front h) (All-tail (λ z. f z ≢ most) w other k) in
       record { fronts = ap (λ (v : A). v ∷ front) first ∙ ap (λ (vs : List A). w ∷ vs) more.fronts; it = more.it; rests = more.rests }
 
-pub first_once : {A : Type 0} (f : A → ℕ) (xs ys front other : List A) (x y : A) (rest another : List A) → xs ≡ ys → IsFirstMost f xs front x rest → IsFirstMost f ys other y another → AreSame front other x y rest another
+pub first_once : {A : Type 0} (f : A → ℕ) (xs ys front other : List A) (x y : A) (rest another : List A) → xs ≡ ys
+    → IsFirstMost f xs front x rest → IsFirstMost f ys other y another → AreSame front other x y rest another
 first_once f xs ys front other x y rest another same h k =
     parted_once f (most_by f xs) front other x y rest another (sym h.is ∙ same ∙ k.is) h.most (k.most ∙ ap (most_by f) (sym same)) h.first
     (subst (λ (m : ℕ). All (λ z. f z ≢ m) other) (ap (most_by f) (sym same)) k.first)
@@ -99,10 +101,12 @@ module _ (b : Bounding) (laws : IsBounding b) (ranges : Area) (suits : b.suits r
         (upper_part cut.box.area cut.halves (box_ranges b laws ranges suits are cut.box (cut_is cut)) (cut_more boxes cut more))
 
     -- one answer for each half, whichever cut names it
-    low_answer : (h k : Cut boxes) (first second : Bounded) → b.answers (lower_of h.halves) first → b.answers (lower_of k.halves) second → first ≡ second
+    low_answer : (h k : Cut boxes) (first second : Bounded) → b.answers (lower_of h.halves) first
+        → b.answers (lower_of k.halves) second → first ≡ second
     low_answer h k first second at other = laws.one_answer (lower_of k.halves) first second (low_suits k) (subst (λ (a : Area). b.answers a first) (cut_lower boxes h k) at) other
 
-    high_answer : (h k : Cut boxes) (first second : Bounded) → b.answers (upper_of h.halves) first → b.answers (upper_of k.halves) second → first ≡ second
+    high_answer : (h k : Cut boxes) (first second : Bounded) → b.answers (upper_of h.halves) first
+        → b.answers (upper_of k.halves) second → first ≡ second
     high_answer h k first second at other = laws.one_answer (upper_of k.halves) first second (high_suits k) (subst (λ (a : Area). b.answers a first) (cut_upper boxes h k) at) other
 
     pub one_next : (next other : List Box) → IsSplit b.answers boxes next → IsSplit b.answers boxes other → next ≡ other
@@ -125,7 +129,8 @@ module _ (b : Bounding) (laws : IsBounding b) (ranges : Area) (suits : b.suits r
       | inr high ↦ at_not h.upper scope (high_answer h.cut k.cut (At h.upper) (Left scope) h.upper_is high.2)
     ]
 
-    pub one_scope : (scope other : ℕ) → IsStopped b.answers boxes scope → IsStopped b.answers boxes other → scope ≡ other
+    pub one_scope : (scope other : ℕ) → IsStopped b.answers boxes scope → IsStopped b.answers boxes other
+        → scope ≡ other
     one_scope scope other h k = elim h.left [
       | inl low ↦ elim k.left [
         | inl too ↦ left_is scope other (low_answer h.cut k.cut (Left scope) (Left other) low too)
@@ -139,14 +144,16 @@ module _ (b : Bounding) (laws : IsBounding b) (ranges : Area) (suits : b.suits r
 
   -- ---- one list after so many splits
 
-  pub one_list : (n : ℕ) (boxes other : List Box) → Splits b.answers ranges n boxes → Splits b.answers ranges n other → boxes ≡ other
+  pub one_list : (n : ℕ) (boxes other : List Box) → Splits b.answers ranges n boxes → Splits b.answers ranges n other
+      → boxes ≡ other
   one_list n boxes other (begins bound is) (begins bound' is') = ap (λ (v : ℕ). record { area = ranges; bound = v } ∷ []) (at_is bound bound' (laws.one_answer ranges (At bound) (At bound') suits is is'))
   one_list n next another (goes_on k boxes next' before more split) (goes_on k' other another' before' more' split') =
       let same : boxes ≡ other = one_list k boxes other before before' in
       one_next other (all_boxes b laws ranges suits are k other before') more' next another (subst (λ (bs : List Box). IsSplit b.answers bs next) same split) split'
 
   -- the first box has a bound
-  pub first_bound : (n : ℕ) (boxes : List Box) → Splits b.answers ranges n boxes → (bound : ℕ) × b.answers ranges (At bound)
+  pub first_bound : (n : ℕ) (boxes : List Box) → Splits b.answers ranges n boxes
+      → (bound : ℕ) × b.answers ranges (At bound)
   first_bound n boxes (begins bound is) = (bound, is)
   first_bound n next (goes_on k boxes next' before more split) = first_bound k boxes before
 
@@ -169,7 +176,8 @@ module _ (b : Bounding) (laws : IsBounding b) (ranges : Area) (suits : b.suits r
 
   module _ (splits : ℕ) where
     -- a search has not ended where the boxes were split further
-    never_earlier : (found : Searched) (h : IsSearched b.answers ranges splits found) (other : ℕ) → other ≤ splits → h.made < other → IsPassed h.made → ⊥
+    never_earlier : (found : Searched) (h : IsSearched b.answers ranges splits found) (other : ℕ) → other ≤ splits
+        → h.made < other → IsPassed h.made → ⊥
     never_earlier found h other within less way =
         let same : found.boxes ≡ way.boxes = one_list h.made found.boxes way.boxes h.boxes way.splits in
         elim h.ends [
@@ -186,7 +194,8 @@ module _ (b : Bounding) (laws : IsBounding b) (ranges : Area) (suits : b.suits r
     same_found : (first second : Searched) → first.boxes ≡ second.boxes → first.exact ≡ second.exact → first ≡ second
     same_found first second e x = ap (λ (bs : List Box). record { boxes = bs; exact = first.exact }) e ∙ ap (λ (v : Bool). record { boxes = second.boxes; exact = v }) x
 
-    one_found : (first second : Searched) → IsSearched b.answers ranges splits first → IsSearched b.answers ranges splits second → first ≡ second
+    one_found : (first second : Searched) → IsSearched b.answers ranges splits first
+        → IsSearched b.answers ranges splits second → first ≡ second
     one_found first second h k = elim (cases_lt h.made k.made) [
       | inl less ↦ absurd (never_earlier first h k.made k.within less (passed h.made k.made second.boxes k.boxes less))
       | inr over ↦ elim (cases_lt k.made h.made) [
@@ -200,7 +209,8 @@ module _ (b : Bounding) (laws : IsBounding b) (ranges : Area) (suits : b.suits r
       ]
     ]
 
-    found_or_left : (found : Searched) (scope : ℕ) → IsSearched b.answers ranges splits found → IsLeftIn b.answers ranges splits scope → ⊥
+    found_or_left : (found : Searched) (scope : ℕ) → IsSearched b.answers ranges splits found
+        → IsLeftIn b.answers ranges splits scope → ⊥
     found_or_left found scope h (at_first left) =
         let first = first_bound h.made found.boxes h.boxes in
         at_not first.0 scope (laws.one_answer ranges (At first.0) (Left scope) suits first.1 left)
@@ -218,7 +228,8 @@ module _ (b : Bounding) (laws : IsBounding b) (ranges : Area) (suits : b.suits r
       ]
     ]
 
-    one_left : (scope other : ℕ) → IsLeftIn b.answers ranges splits scope → IsLeftIn b.answers ranges splits other → scope ≡ other
+    one_left : (scope other : ℕ) → IsLeftIn b.answers ranges splits scope → IsLeftIn b.answers ranges splits other
+        → scope ≡ other
     one_left scope other (at_first left) (at_first too) = left_is scope other (laws.one_answer ranges (Left scope) (Left other) suits left too)
     one_left scope other (at_first left) (at_half n boxes low before more stopped) =
         let first = first_bound n boxes before in absurd (at_not first.0 scope (laws.one_answer ranges (At first.0) (Left scope) suits first.1 left))

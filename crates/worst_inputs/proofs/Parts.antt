@@ -49,7 +49,8 @@ part_ranges (x ∷ area) (y ∷ part) ranges h =
 -- ---- one range changed
 
 -- a part of one range makes a part
-pub part_at : (before : Area) (range part : Range) (after : Area) → All IsRange (before ++ range ∷ after) → IsPartOf range part → IsPart (before ++ range ∷ after) (before ++ part ∷ after)
+pub part_at : (before : Area) (range part : Range) (after : Area) → All IsRange (before ++ range ∷ after)
+    → IsPartOf range part → IsPart (before ++ range ∷ after) (before ++ part ∷ after)
 part_at [] range part after ranges h = (h, part_itself after (All-tail IsRange range after ranges))
 part_at (first ∷ before) range part after ranges h = (
   record { ordered = (All-head IsRange first (before ++ range ∷ after) ranges).ordered; least = ≤ℤ_refl first.low; most = ≤ℤ_refl first.high },
@@ -57,7 +58,8 @@ part_at (first ∷ before) range part after ranges h = (
 )
 
 -- where each number of the range is in one of two, each input is inside one of two areas
-pub inside_at : (before : Area) (range lower upper : Range) (after : Area) → ((number : ℤ) → IsIn range number → IsIn lower number ⊎ IsIn upper number)
+pub inside_at : (before : Area) (range lower upper : Range) (after : Area)
+    → ((number : ℤ) → IsIn range number → IsIn lower number ⊎ IsIn upper number)
     → (input : List ℤ) → IsInside (before ++ range ∷ after) input → IsInside (before ++ lower ∷ after) input ⊎ IsInside (before ++ upper ∷ after) input
 inside_at [] range lower upper after either [] within = absurd within
 inside_at [] range lower upper after either (number ∷ input) within = elim (either number within.0) [ inl low ↦ inl (low, within.1) | inr high ↦ inr (high, within.1) ]

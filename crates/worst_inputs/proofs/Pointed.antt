@@ -21,7 +21,8 @@ module _ (pairs : List (Vec Range × ℕ)) (worst : ℕ) where
     pub no_more : All IsNone (take place pairs) → IsNone pair → All IsNone (take (place + 1) pairs)
     no_more none here = All-more IsNone pairs place pair low none (subst IsNone at here)
 
-  pub no_point : (place : ℕ) → length pairs ≤ place → All IsNone (take place pairs) → HasPoint (seen_boxes pairs) worst → ⊥
+  pub no_point : (place : ℕ) → length pairs ≤ place → All IsNone (take place pairs) → HasPoint (seen_boxes pairs) worst
+      → ⊥
   no_point place over none has =
       let m = mapped seen_box pairs has.box has.among in
       let all : All IsNone pairs = subst (λ (ps : List (Vec Range × ℕ)). All IsNone ps) (take_all place pairs over) none in

@@ -107,7 +107,8 @@ module _ (b : Bounding) (laws : IsBounding b) (ranges : Area) (suits : b.suits r
     in_next box among = subst (λ (bs : List Box). Contains bs box) (sym next_is) among
 
     -- an input inside a box is inside one after the split
-    pub split_covers : (input : List ℤ) (box : Box) → Contains boxes box → IsInside box.area input → (other : Box) × Contains next other × IsInside other.area input
+    pub split_covers : (input : List ℤ) (box : Box) → Contains boxes box → IsInside box.area input
+        → (other : Box) × Contains next other × IsInside other.area input
     unfolding lower_box upper_box
     split_covers input box among inside =
         elim (Contains-append_cases split.cut.front (split.cut.box ∷ split.cut.rest) box (subst (λ (bs : List Box). Contains bs box) split.cut.worst.is among)) [
@@ -145,7 +146,8 @@ module _ (b : Bounding) (laws : IsBounding b) (ranges : Area) (suits : b.suits r
   }
 
   -- and each input is inside one of them
-  pub covered : (n : ℕ) (boxes : List Box) → Splits b.answers ranges n boxes → (input : List ℤ) → IsInside ranges input → (box : Box) × Contains boxes box × IsInside box.area input
+  pub covered : (n : ℕ) (boxes : List Box) → Splits b.answers ranges n boxes → (input : List ℤ) → IsInside ranges input
+      → (box : Box) × Contains boxes box × IsInside box.area input
   covered n boxes (begins bound is) input inside = (record { area = ranges; bound = bound }, first_member (record { area = ranges; bound = bound }) [], inside)
   covered n next (goes_on k boxes other before more split) input inside =
       let found = covered k boxes before input inside in
@@ -160,7 +162,8 @@ module _ (b : Bounding) (laws : IsBounding b) (ranges : Area) (suits : b.suits r
     box_at : (box : Box) → Contains found.boxes box → IsBoxOf b ranges box
     box_at box among = All-contains (IsBoxOf b ranges) found.boxes box each_box among
 
-    bounds_in : (box : Box) (input : List ℤ) → Contains found.boxes box → IsInside box.area input → CostsAtMost b.costs input box.bound
+    bounds_in : (box : Box) (input : List ℤ) → Contains found.boxes box → IsInside box.area input
+        → CostsAtMost b.costs input box.bound
     bounds_in box input among inside = laws.bounds box.area box.bound input (box_suits box (box_at box among)) (box_at box among).is inside
 
     greatest : HasPointAtTop found.boxes → IsGreatestCost b.costs ranges (worst_of found.boxes)

@@ -3,7 +3,8 @@
 ghost use Rattle.std.specs.Prelude.{◌≡◌, ◌++◌, ◌∷◌, [], string_bytes, IfOk, OnOk, Some};
 ghost use Rattle.flow_graph.specs.Names.{quoted};
 ghost use Rattle.command_plans.specs.Outcome.{cause_of};
-ghost use Rattle.program_files.specs.CheckLines.{number_or_dash, name_line, size_line, names_line, check_line, check_cause, graph_line};
+ghost use Rattle.program_files.specs.CheckLines.{number_or_dash, name_line, size_line, names_line, check_line};
+ghost use Rattle.program_files.specs.CheckLines.{check_cause, graph_line};
 
 use crate::lines::fault_lines::limit_line;
 use alf_check::CheckFault;

@@ -10,7 +10,8 @@ use std::alloc::{AllocError, Global};
 
 /// The line that tells where a text departs from the grammar. Want of memory has none.
 pub fn fault_line(alloc: Global, fault: &TextFault) -> Result<Vec<u8>, AllocError>
-    ensures { IfOk result (λ line. IsSomeAnd (departure_of fault.now) (λ departure. line.items ≡ fault_line departure)) }
+    ensures { IfOk result
+        (λ line. IsSomeAnd (departure_of fault.now) (λ departure. line.items ≡ fault_line departure)) }
 {
     match fault {
         TextFault::Syntax(place) => {
@@ -39,7 +40,9 @@ pub fn limit_line(alloc: Global, which: Which, count: u64) -> Result<Vec<u8>, Al
 }
 
 fn profile_line(alloc: Global, place: Place, word: &Name) -> Result<Vec<u8>, AllocError>
-    ensures { IfOk result (λ line. line.items ≡ codes "fault 12 profile " ++ (place_text place ++ (codes " \"" ++ (word.now ++ codes "\"\n")))) }
+    ensures { IfOk result
+        (λ line. line.items
+        ≡ codes "fault 12 profile " ++ (place_text place ++ (codes " \"" ++ (word.now ++ codes "\"\n")))) }
 {
     let place = place_text(alloc, place)?;
     let start = format!(in alloc; "fault 12 profile {place} \"")?;

@@ -40,7 +40,9 @@ fn limit_line(alloc: Global, which: Which, count: u64) -> Result<Vec<u8>, AllocE
 }
 
 fn outside_line(alloc: Global, place: Place, word: &Name) -> Result<Vec<u8>, AllocError>
-    ensures { IfOk result (λ line. line.items ≡ codes "fault 92 profile " ++ (place_text place ++ (codes " \"" ++ (word.now ++ codes "\"\n")))) }
+    ensures { IfOk result
+        (λ line. line.items
+        ≡ codes "fault 92 profile " ++ (place_text place ++ (codes " \"" ++ (word.now ++ codes "\"\n")))) }
 {
     let place = place_text(alloc, place)?;
     let start = format!(in alloc; "fault 92 profile {place} \"")?;

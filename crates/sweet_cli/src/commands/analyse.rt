@@ -35,8 +35,11 @@ pub fn analyse<F: Shelf>(
     shelf: &mut F,
 ) -> Result<Vec<u8>, Stop>
     requires turns { given.turns ≤ 1000000 }
-    ensures work { Works (analysing (analyse_meant given.entry)) (λ text. text.items) (F.state shelf.old) result (F.state shelf.new) }
-    ensures promise { IfOk result (λ text. IfSome (F.state shelf.old).files (λ files. IsSoundReport (analyse_meant given.entry) files text.items)) }
+    ensures work { Works (analysing (analyse_meant given.entry)) (λ text. text.items) (F.state shelf.old) result
+        (F.state shelf.new) }
+    ensures promise { IfOk result
+        (λ text. IfSome (F.state shelf.old).files
+        (λ files. IsSoundReport (analyse_meant given.entry) files text.items)) }
 {
     found_reports_are_right();
     a_file_has_one_answer();
@@ -78,7 +81,8 @@ pub fn priced(mut program: ScopedProgram, costs: &Costs) -> ScopedProgram
     ensures expanded { result.expanded ≡ program.expanded }
     ensures scopes { scoped_of result ≡ scoped_of program }
     ensures outline { IsOutlined result.expanded.graph result.outline }
-    ensures priced { (program : NumberedProgram) → IsGraph program result.expanded.graph → HasCosts program result.expanded.graph costs.now result.outline }
+    ensures priced { (program : NumberedProgram) → IsGraph program result.expanded.graph
+        → HasCosts program result.expanded.graph costs.now result.outline }
 {
     set_costs(&program.expanded.graph, costs, &mut program.outline);
     program
@@ -98,7 +102,9 @@ pub fn report_of(
     requires rows { KeepInputs (seen program.expanded.checked) tables.now.rows.items }
     requires outline { IsOutlined program.expanded.graph program.outline }
     requires turns { turns ≤ 1000000 }
-    ensures means { Judges (ReportMeans certify (scoped_of program) tables.now.rows.items tables.now.costs (policy_of merging) turns pivots) (λ report. reported report) result }
+    ensures means { Judges
+        (ReportMeans certify (scoped_of program) tables.now.rows.items tables.now.costs (policy_of merging) turns
+        pivots) (λ report. reported report) result }
     ensures writable { IfOk result (λ report. IsWritable (reported report)) }
 {
     let program = priced(program, &tables.costs);
@@ -126,9 +132,12 @@ fn explored(
     requires graph { IsGraph (seen program.now.expanded.checked) program.now.expanded.graph }
     requires rows { KeepInputs (seen program.now.expanded.checked) tables.now.rows.items }
     requires outline { IsOutlined program.now.expanded.graph program.now.outline }
-    requires priced { (other : NumberedProgram) → IsGraph other program.now.expanded.graph → HasCosts other program.now.expanded.graph tables.now.costs program.now.outline }
+    requires priced { (other : NumberedProgram) → IsGraph other program.now.expanded.graph
+        → HasCosts other program.now.expanded.graph tables.now.costs program.now.outline }
     requires turns { turns ≤ 1000000 }
-    ensures means { Judges (ReportMeans certify (scoped_of program.now) tables.now.rows.items tables.now.costs policy turns pivots) (λ report. reported report) result }
+    ensures means { Judges
+        (ReportMeans certify (scoped_of program.now) tables.now.rows.items tables.now.costs policy turns pivots)
+        (λ report. reported report) result }
     ensures writable { IfOk result (λ report. IsWritable (reported report)) }
 {
     let expanded = &program.expanded;

@@ -73,7 +73,8 @@ fn cached_in(
     requires outline { IsOutlined program.expanded.graph program.outline }
     requires shape { IsShape shape }
     requires turns { turns ≤ 1000000 }
-    ensures means { Judges (CacheMeans (scoped_of program) tables.now.rows.items tables.now.costs shape (policy_of merging)
+    ensures means { Judges
+        (CacheMeans (scoped_of program) tables.now.rows.items tables.now.costs shape (policy_of merging)
         turns) lines_of result }
     ensures sound { IfOk result (λ lines. IsSound (seen program.expanded.checked) program.expanded.graph
         tables.now.rows.items shape tables.now.costs (lines_of lines)) }
@@ -127,7 +128,8 @@ fn explored(
     requires noted { HasCodeNotes (seen program.now.expanded.checked) program.now.expanded.graph shape
         program.now.outline }
     requires turns { turns ≤ 1000000 }
-    ensures means { Judges (CacheMeans (scoped_of program.now) tables.now.rows.items tables.now.costs shape policy turns)
+    ensures means { Judges
+        (CacheMeans (scoped_of program.now) tables.now.rows.items tables.now.costs shape policy turns)
         lines_of result }
     ensures sound { IfOk result (λ lines. IsSound (seen program.now.expanded.checked) program.now.expanded.graph
         tables.now.rows.items shape tables.now.costs (lines_of lines)) }

@@ -10,7 +10,8 @@ ghost use Rattle.report_objections.specs.Accepted.{IsScaled};
 ghost use Rattle.command_plans.specs.Works.{Works, Judges};
 ghost use Rattle.command_files.specs.Seen.{IsOutlined, scoped_of, tables_of};
 ghost use Rattle.sweet_cli.specs.Words.{check_meant};
-ghost use Rattle.sweet_cli.specs.Check.{CheckMeans, IsAccepted, IsSoundOf, IsSoundTold, accepted, checking, report_judged};
+ghost use Rattle.sweet_cli.specs.Check.{CheckMeans, IsAccepted, IsSoundOf, IsSoundTold, accepted, checking};
+ghost use Rattle.sweet_cli.specs.Check.{report_judged};
 
 use crate::commands::analyse::priced;
 use crate::words::CheckWords;

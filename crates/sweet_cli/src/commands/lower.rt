@@ -16,8 +16,10 @@ use std::alloc::Global;
 /// The canonical text.
 #[tactic(auto, unfolding(crate::specs::Lower::lowering))]
 pub fn lower<F: Shelf>(alloc: Global, given: LowerWords<'_>, shelf: &mut F) -> Result<Vec<u8>, Stop>
-    ensures work { Works (lowering (lower_meant given.entry)) (λ text. text.items) (F.state shelf.old) result (F.state shelf.new) }
-    ensures promise { IfOk result (λ text. IfSome (F.state shelf.old).files (λ files. IsLoweredText (lower_meant given.entry) files text.items)) }
+    ensures work { Works (lowering (lower_meant given.entry)) (λ text. text.items) (F.state shelf.old) result
+        (F.state shelf.new) }
+    ensures promise { IfOk result
+        (λ text. IfSome (F.state shelf.old).files (λ files. IsLoweredText (lower_meant given.entry) files text.items)) }
 {
     // What canonical texts spell, as the promise needs it.
     writable_programs_are_spelled();

@@ -14,7 +14,8 @@ use std::alloc::Global;
 /// The text of the report.
 pub fn migrate<F: Shelf>(alloc: Global, file: &str, shelf: &mut F) -> Result<Vec<u8>, Stop>
     ensures work { Works (migrating file.now) (λ text. text.items) (F.state shelf.old) result (F.state shelf.new) }
-    ensures promise { IfOk result (λ text. IfSome (F.state shelf.old).files (λ files. IsMigratedReport file.now files text.items)) }
+    ensures promise { IfOk result
+        (λ text. IfSome (F.state shelf.old).files (λ files. IsMigratedReport file.now files text.items)) }
 {
     // What texts of reports spell, as the promise needs it.
     writable_reports_are_spelled();

@@ -32,8 +32,12 @@ use std::alloc::Global;
 
 /// The answer to the words. None where memory ran out.
 pub fn words_answer<F: Shelf>(alloc: Global, words: &[String], shelf: &mut F) -> Option<Answer>
-    ensures due { IfSome result (λ answer. Answers (task_of (map string_bytes words.now)).work (F.state shelf.old) (ending_of answer) (F.state shelf.new)) }
-    ensures promise { IfSome result (λ answer. IfSome (F.state shelf.old).files (λ files. KeepsPromise (task_of (map string_bytes words.now)) files (ending_of answer))) }
+    ensures due { IfSome result
+        (λ answer. Answers (task_of (map string_bytes words.now)).work (F.state shelf.old) (ending_of answer)
+        (F.state shelf.new)) }
+    ensures promise { IfSome result
+        (λ answer. IfSome (F.state shelf.old).files
+        (λ files. KeepsPromise (task_of (map string_bytes words.now)) files (ending_of answer))) }
     ensures same_files { (F.state shelf.new).files ≡ (F.state shelf.old).files }
 {
     match words_text(alloc, words, shelf) {
@@ -45,8 +49,11 @@ pub fn words_answer<F: Shelf>(alloc: Global, words: &[String], shelf: &mut F) ->
 
 // The text of the words' command.
 fn words_text<F: Shelf>(alloc: Global, words: &[String], shelf: &mut F) -> Result<Vec<u8>, Stop>
-    ensures work { Works (task_of (map string_bytes words.now)).work (λ text. text.items) (F.state shelf.old) result (F.state shelf.new) }
-    ensures promise { IfOk result (λ text. IfSome (F.state shelf.old).files (λ files. (task_of (map string_bytes words.now)).Promise files text.items)) }
+    ensures work { Works (task_of (map string_bytes words.now)).work (λ text. text.items) (F.state shelf.old) result
+        (F.state shelf.new) }
+    ensures promise { IfOk result
+        (λ text. IfSome (F.state shelf.old).files
+        (λ files. (task_of (map string_bytes words.now)).Promise files text.items)) }
 {
     match read(alloc, words) {
         Ok(command) => command_text(alloc, command, shelf),
@@ -69,8 +76,11 @@ fn command_text<F: Shelf>(
     shelf: &mut F,
 ) -> Result<Vec<u8>, Stop>
     requires ranges { IsWithinRanges (command_meant command) }
-    ensures work { Works (task_for (command_meant command.entry)).work (λ text. text.items) (F.state shelf.old) result (F.state shelf.new) }
-    ensures promise { IfOk result (λ text. IfSome (F.state shelf.old).files (λ files. (task_for (command_meant command.entry)).Promise files text.items)) }
+    ensures work { Works (task_for (command_meant command.entry)).work (λ text. text.items) (F.state shelf.old) result
+        (F.state shelf.new) }
+    ensures promise { IfOk result
+        (λ text. IfSome (F.state shelf.old).files
+        (λ files. (task_for (command_meant command.entry)).Promise files text.items)) }
 {
     match command {
         Command::Analyse(given) => analyse::analyse(alloc, given, shelf),
@@ -93,8 +103,11 @@ fn print_text<F: Shelf>(
     program: ProgramFile<'_>,
     shelf: &mut F,
 ) -> Result<Vec<u8>, Stop>
-    ensures work { Works (print_task (file_meant program.entry)).work (λ text. text.items) (F.state shelf.old) result (F.state shelf.new) }
-    ensures promise { IfOk result (λ text. IfSome (F.state shelf.old).files (λ files. (print_task (file_meant program.entry)).Promise files text.items)) }
+    ensures work { Works (print_task (file_meant program.entry)).work (λ text. text.items) (F.state shelf.old) result
+        (F.state shelf.new) }
+    ensures promise { IfOk result
+        (λ text. IfSome (F.state shelf.old).files
+        (λ files. (print_task (file_meant program.entry)).Promise files text.items)) }
 {
     match program {
         ProgramFile::Alf(file) => print::print(alloc, file, shelf),

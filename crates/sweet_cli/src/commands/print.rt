@@ -13,7 +13,8 @@ use std::alloc::Global;
 /// The canonical text.
 pub fn print<F: Shelf>(alloc: Global, file: &str, shelf: &mut F) -> Result<Vec<u8>, Stop>
     ensures work { Works (printing file.now) (λ text. text.items) (F.state shelf.old) result (F.state shelf.new) }
-    ensures promise { IfOk result (λ text. IfSome (F.state shelf.old).files (λ files. IsSameProgram file.now files text.items)) }
+    ensures promise { IfOk result
+        (λ text. IfSome (F.state shelf.old).files (λ files. IsSameProgram file.now files text.items)) }
 {
     // What canonical texts spell, as the promise needs it.
     canonical_texts_are_read_back();

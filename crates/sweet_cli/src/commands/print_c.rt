@@ -13,7 +13,8 @@ use std::alloc::Global;
 /// The canonical text.
 pub fn print_c<F: Shelf>(alloc: Global, file: &str, shelf: &mut F) -> Result<Vec<u8>, Stop>
     ensures work { Works (printing_c file.now) (λ text. text.items) (F.state shelf.old) result (F.state shelf.new) }
-    ensures promise { IfOk result (λ text. IfSome (F.state shelf.old).files (λ files. IsSameUnit file.now files text.items)) }
+    ensures promise { IfOk result
+        (λ text. IfSome (F.state shelf.old).files (λ files. IsSameUnit file.now files text.items)) }
 {
     // That canonical texts are read back, as the promise needs it.
     spelled_units_are_read_back();

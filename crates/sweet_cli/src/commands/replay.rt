@@ -64,7 +64,8 @@ fn run_judged<F: Shelf>(
     requires graph { IsGraph (seen program.expanded.checked) program.expanded.graph }
     requires rows { KeepInputs (seen program.expanded.checked) tables.now.rows.items }
     requires outline { IsOutlined program.expanded.graph program.outline }
-    ensures { Works (run_judged (replay_meant given.entry) (scoped_of program) (tables_of tables.now)) (λ text. text.items)
+    ensures { Works (run_judged (replay_meant given.entry) (scoped_of program) (tables_of tables.now))
+        (λ text. text.items)
         (F.state shelf.old) result (F.state shelf.new) }
 {
     let report = report_in(alloc, given.report, shelf)?;

@@ -30,8 +30,10 @@ use whole_numbers::Whole;
 /// The text that tells the run.
 #[tactic(auto, unfolding(crate::specs::Run::running))]
 pub fn run<F: Shelf>(alloc: Global, given: RunWords<'_>, shelf: &mut F) -> Result<Vec<u8>, Stop>
-    ensures work { Works (running (run_meant given.entry)) (λ text. text.items) (F.state shelf.old) result (F.state shelf.new) }
-    ensures promise { IfOk result (λ text. IfSome (F.state shelf.old).files (λ files. TellsRun (run_meant given.entry) files text.items)) }
+    ensures work { Works (running (run_meant given.entry)) (λ text. text.items) (F.state shelf.old) result
+        (F.state shelf.new) }
+    ensures promise { IfOk result
+        (λ text. IfSome (F.state shelf.old).files (λ files. TellsRun (run_meant given.entry) files text.items)) }
 {
     a_file_has_one_answer();
     let program = scoped_in(alloc, given.program, given.root, shelf)?;
@@ -55,7 +57,8 @@ fn told(
 ) -> Result<Vec<u8>, Stop>
     requires graph { IsGraph (seen program.now.expanded.checked) program.now.expanded.graph }
     requires rows { KeepInputs (seen program.now.expanded.checked) tables.now.rows.items }
-    ensures { Judges (RunMeans (scoped_of program.now) tables.now.rows.items tables.now.costs turns) (λ text. text.items) result }
+    ensures { Judges (RunMeans (scoped_of program.now) tables.now.rows.items tables.now.costs turns)
+        (λ text. text.items) result }
 {
     let expanded = &program.expanded;
     expanded.checked.keeps();

@@ -18,7 +18,8 @@ use std::alloc::Global;
 /// A line for each task, with its response time.
 pub fn tasks<F: Shelf>(alloc: Global, file: &str, shelf: &mut F) -> Result<Vec<u8>, Stop>
     ensures work { Works (answering file.now) (λ text. text.items) (F.state shelf.old) result (F.state shelf.new) }
-    ensures promise { IfOk result (λ text. IfSome (F.state shelf.old).files (λ files. TellsResponses file.now files text.items)) }
+    ensures promise { IfOk result
+        (λ text. IfSome (F.state shelf.old).files (λ files. TellsResponses file.now files text.items)) }
 {
     // That the tasks are a task set, and that its jobs finish, as the promise needs it.
     a_tasks_file_has_one_answer();

@@ -7,5 +7,6 @@ use Rattle.abstract_exec.proofs.numbers.heads_none.Given as goal
 abbrev pub invariant-loop-step : goal.invariant-loop-step
 invariant-loop-step l = record {
   low : l.at < length l.outline.scopes;
-  ahead : (t : ℕ) → LeadsTo l.outline.scopes t l.scope → (is_header (shape_of l.outline) t l.node ≡ false) ⊎ LeadsTo l.outline.scopes t l.at;
+  ahead : (t : ℕ) → LeadsTo l.outline.scopes t l.scope
+      → (is_header (shape_of l.outline) t l.node ≡ false) ⊎ LeadsTo l.outline.scopes t l.at;
 }

@@ -9,5 +9,6 @@ abbrev pub invariant-loop-e : goal.invariant-loop-e
 invariant-loop-e l = record {
   long : length l.flags ≡ length l.outline.nodes;
   sound : (n : ℕ) → get_or l.flags n false ≡ true → IsExit (shape_of l.outline) n;
-  done : (k u n : ℕ) → k < l.e → slice_get l.outline.edges k ≡ Some (u, n) → n < length l.outline.nodes → IsLeft (shape_of l.outline) u n → get_or l.flags n false ≡ true;
+  done : (k u n : ℕ) → k < l.e → slice_get l.outline.edges k ≡ Some (u, n) → n < length l.outline.nodes
+      → IsLeft (shape_of l.outline) u n → get_or l.flags n false ≡ true;
 }

@@ -5,7 +5,8 @@ use Rattle.alf_check.specs.Checking.{name_at}
 use Rattle.alf_check.proofs.checking.name_at.Goals as goal
 
 -- the name of the function at a place
-name_there : (funcs : List Func) (k : ℕ) (func : Func) → k < length funcs → func ≡ get_or funcs k func → func.name ≡ name_at (map function_of funcs) k
+name_there : (funcs : List Func) (k : ℕ) (func : Func) → k < length funcs → func ≡ get_or funcs k func
+    → func.name ≡ name_at (map function_of funcs) k
 name_there [] k func low is = absurd (omega arith)
 name_there (x ∷ funcs) zero func low is = ap (λ (f : Func). f.name) is
 name_there (x ∷ funcs) (suc k) func low is = name_there funcs k func (omega arith) is

@@ -15,14 +15,16 @@ use Rattle.alf_check.specs.CheckedPrograms.{term_of, term_step}
 use Rattle.alf_check.specs.Names.{numbers_of}
 use Rattle.alf_check.proofs.expressions.+expressions.Goals as goal
 
-numbered_each : (frame : List ℕ → ℕ) (ts : List NamedExpression) → expressions_of (map (with_frames frame) ts) ≡ all_with_frames frame (expressions_of ts)
+numbered_each : (frame : List ℕ → ℕ) (ts : List NamedExpression)
+    → expressions_of (map (with_frames frame) ts) ≡ all_with_frames frame (expressions_of ts)
 numbered_each frame [] = refl
 numbered_each frame (t ∷ ts) = ap (λ (x : NumberedExpressions). With (with_frames frame t) x) (numbered_each frame ts)
 
 text_applies : (op : Op) (sizes : ArrayVec ℕ) (operands : Vec Expr Global) → expression_of (exprs.Apply op sizes operands) ≡ text.Apply op sizes.items (expressions_of (map expression_of operands.items))
 text_applies op sizes operands = ap expression_of (sym (exprs.rolls-Apply op sizes operands)) ∙ fold-roll-Expr NamedExpression expression_step _
 
-applies : (op : Op) (sizes : Vec ℕ Global) (operands : Vec Numbered Global) → term_of (terms.Apply op sizes operands) ≡ Apply op sizes.items (expressions_of (map term_of operands.items))
+applies : (op : Op) (sizes : Vec ℕ Global) (operands : Vec Numbered Global)
+    → term_of (terms.Apply op sizes operands) ≡ Apply op sizes.items (expressions_of (map term_of operands.items))
 applies op sizes operands = ap term_of (sym (terms.rolls-Apply op sizes operands)) ∙ fold-roll-Term NumberedExpression term_step _
 
 -- an operator with the same sizes and with numbered operands

@@ -7,7 +7,8 @@ use Rattle.alf_faults.specs.Duplicates.{target_duplicates}
 use Rattle.alf_faults.proofs.repeated_names.repeated_target.Goals as goal
 
 -- a new number is kept for the targets after it
-new_passed : (seen after : List ℕ) (targets : List (Num × List ℕ)) (i : ℕ) (t : Num × List ℕ) → i < length targets → t ≡ get_or targets i t
+new_passed : (seen after : List ℕ) (targets : List (Num × List ℕ)) (i : ℕ) (t : Num × List ℕ) → i < length targets
+    → t ≡ get_or targets i t
     → list_any (nat_eq t.0.bits) seen ≡ false → after ≡ (if list_any (nat_eq t.0.bits) seen then seen else seen ++ t.0.bits ∷ [])
     → earliest (target_duplicates after (drop (i + 1) targets)) ≡ earliest (target_duplicates seen (drop i targets))
 new_passed seen after targets i t low is new kept =

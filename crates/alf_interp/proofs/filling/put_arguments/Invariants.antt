@@ -13,7 +13,8 @@ invariant-loop-arg l = record {
   storable : AllByRecursion IsStorable l.left;
   shapes_are : shapes l.frames ≡ shapes l.fn.frames;
   functions_are : length l.frames.running ≡ length l.fn.frames.running;
-  goes_on : (history : List RunEvent) → StandsFor l.fn.frames history → ArgumentsHaveRoom (shapes l.fn.frames) history l.args l.values
+  goes_on : (history : List RunEvent) → StandsFor l.fn.frames history
+      → ArgumentsHaveRoom (shapes l.fn.frames) history l.args l.values
       → Continues l.frames (λ h. ArgumentsHaveRoom (shapes l.fn.frames) h l.rest l.left) (with_arguments l.args l.values history) (λ h. with_arguments l.rest l.left h);
 }
 

@@ -13,7 +13,8 @@ invariant-loop-init l = record {
   words : AllByRecursion IsInitWord l.rest;
   shapes_are : shapes l.frames ≡ shapes l.fn.frames;
   functions_are : length l.frames.running ≡ length l.fn.frames.running;
-  goes_on : (history : List RunEvent) → StandsFor l.fn.frames history → InitsHaveRoom (shapes l.fn.frames) history l.inits
+  goes_on : (history : List RunEvent) → StandsFor l.fn.frames history
+      → InitsHaveRoom (shapes l.fn.frames) history l.inits
       → Continues l.frames (λ h. InitsHaveRoom (shapes l.fn.frames) h l.rest) (with_inits l.inits history) (λ h. with_inits l.rest h);
 }
 

@@ -13,7 +13,8 @@ invariant-loop-row l = record {
   words : AllZip IsInputWord l.rest l.left;
   shapes_are : shapes l.frames ≡ shapes l.fn.frames;
   functions_are : length l.frames.running ≡ length l.fn.frames.running;
-  goes_on : (history : List RunEvent) → StandsFor l.fn.frames history → InputsHaveRoom (shapes l.fn.frames) history l.rows l.words
+  goes_on : (history : List RunEvent) → StandsFor l.fn.frames history
+      → InputsHaveRoom (shapes l.fn.frames) history l.rows l.words
       → Continues l.frames (λ h. InputsHaveRoom (shapes l.fn.frames) h l.rest l.left) (with_inputs l.rows l.words history) (λ h. with_inputs l.rest l.left h);
 }
 

@@ -17,7 +17,8 @@ row_named text (row ∷ rows) told =
     let name = (All-head TellsOperator row rows told).name in
     by_test (bytes_eq (spelling row.op) text) (λ e. rw (name, e) refl) (λ e. rw (name, e) (row_named text rows (All-tail TellsOperator row rows told)))
 
-op_of : (row : Option (Bor OpRow)) → option_map (λ row. row.now.op) row ≡ option_map (λ row. row.op) (option_map (λ row. row.now) row)
+op_of : (row : Option (Bor OpRow))
+    → option_map (λ row. row.now.op) row ≡ option_map (λ row. row.op) (option_map (λ row. row.now) row)
 op_of None = refl
 op_of (Some row) = refl
 

@@ -5,7 +5,8 @@ use Rattle.alf_program.specs.Tree.{item_of}
 use Rattle.alf_program.specs.Writable.{ends_well, is_ending}
 use Rattle.alf_text.proofs.functions.ends_well.Goals as goal
 
-last_item : (xs : List Item) (i : Item) → Some i ≡ slice_get xs (length xs - 1) → is_ending (item_of i) ≡ ends_well (map item_of xs)
+last_item : (xs : List Item) (i : Item) → Some i ≡ slice_get xs (length xs - 1)
+    → is_ending (item_of i) ≡ ends_well (map item_of xs)
 last_item [] i h = absurd cc
 last_item (x ∷ []) i h = let e : i ≡ x = cc in rw e refl
 last_item (x ∷ y ∷ xs) i h =

@@ -8,7 +8,8 @@ use Rattle.strided_rules.specs.Domains.{stride_sets}
 use Rattle.strided_rules.specs.StrideLaws.{stride_is_sets}
 use Rattle.branch_refinement.proofs.pins.left_of.Goals as goal
 
-assumed_size : (rel : Rel) (x y : Stride) (o : Option Stride) → IsStride x → IsStride y → x.size ≡ y.size → o ≡ assumed rel x y → IfSome o (λ w. w.size ≡ x.size)
+assumed_size : (rel : Rel) (x y : Stride) (o : Option Stride) → IsStride x → IsStride y → x.size ≡ y.size
+    → o ≡ assumed rel x y → IfSome o (λ w. w.size ≡ x.size)
 assumed_size rel x y o of_x of_y same is = go o (subst (λ (a : Option Stride). GivesSize stride_sets a x.size) (sym is) (stride_is_sets.assumed rel x y of_x of_y same).size)
   where
     go : (o : Option Stride) → GivesSize stride_sets o x.size → IfSome o (λ w. w.size ≡ x.size)

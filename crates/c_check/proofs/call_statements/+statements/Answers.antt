@@ -15,7 +15,8 @@ use Rattle.c_check.proofs.call_statements.+statements.Goals as goal
 abbrev called_from : List Stmt → List ℕ
 called_from body = called_in (statements_of (map statement_of body))
 
-noted : (words : List Word) (names row : List ℕ) (body : List Stmt) (i : ℕ) (s : Stmt) → i < length body → s ≡ get_or body i s
+noted : (words : List Word) (names row : List ℕ) (body : List Stmt) (i : ℕ) (s : Stmt) → i < length body
+    → s ≡ get_or body i s
     → (row ++ numbers_at words names (calls_in (statement_of s))) ++ numbers_at words names (called_from (drop (i + 1) body)) ≡ row ++ numbers_at words names (called_from (drop i body))
 noted words names row body i s low is =
     sym (at_drop_more (λ (ys : List Stmt). row ++ numbers_at words names (called_from ys)) body i s low
@@ -31,7 +32,8 @@ note_statements-loop-s-preserved t c =
     ∙ noted words names c.loop-s.row.items body i c.s-item.result c.loop-s-test.true c.s-item.is ∙ c.loop-s.invariant
 
 -- one list of calls, and then another
-after : (words : List Word) (names row next last xs ys : List ℕ) → last ≡ next ++ numbers_at words names ys → next ≡ row ++ numbers_at words names xs → last ≡ row ++ numbers_at words names (xs ++ ys)
+after : (words : List Word) (names row next last xs ys : List ℕ) → last ≡ next ++ numbers_at words names ys
+    → next ≡ row ++ numbers_at words names xs → last ≡ row ++ numbers_at words names (xs ++ ys)
 after words names row next last xs ys second first = second ∙ ap (λ (r : List ℕ). r ++ numbers_at words names ys) first ∙ joined words names row xs ys
 
 pub note_statement-returns-in_ok-note_if_stated-in-If : goal.note_statement-returns-in_ok-note_if_stated-in-If

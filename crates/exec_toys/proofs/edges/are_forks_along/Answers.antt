@@ -6,7 +6,8 @@ use Rattle.exec_toys.specs.Charts.{IsWayAlong}
 use Rattle.exec_toys.proofs.edges.are_forks_along.Goals as goal
 
 -- what holds of the forks before one, and of this one, holds of those up to it
-up_to : (P : ℕ → Fork → Type 0) (forks : List Fork) (n : ℕ) (default : Fork) → ((m : ℕ) (fork : Fork) → m < n → slice_get forks m ≡ Some fork → P m fork) → P n (get_or forks n default)
+up_to : (P : ℕ → Fork → Type 0) (forks : List Fork) (n : ℕ) (default : Fork)
+    → ((m : ℕ) (fork : Fork) → m < n → slice_get forks m ≡ Some fork → P m fork) → P n (get_or forks n default)
     → (m : ℕ) (fork : Fork) → m < n + 1 → slice_get forks m ≡ Some fork → P m fork
 up_to P forks n default before here m fork low found =
     elim (cases_lt m n) [

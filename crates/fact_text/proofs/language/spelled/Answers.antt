@@ -23,7 +23,8 @@ returns-in-Err-clause-departs c =
     let e : Fails (fault_of c.in-Err.departure) (report.form.reading (start c.args.bytes.now)) = subst (λ (p : Place). Fails (fault_of c.in-Err.departure) (report.form.reading p)) c.new-reader.ensures c.in-Err.ensures in
     by_told (departure_of c.told.result) (fault_of c.in-Err.departure) e c.told.ensures
   where
-    by_told : (told : Option Departure) (fault : Option Fault) → Fails fault (report.form.reading (start c.args.bytes.now))
+    by_told : (told : Option Departure) (fault : Option Fault)
+        → Fails fault (report.form.reading (start c.args.bytes.now))
         → IfSome told (λ told. IsSomeAnd fault (λ fault. told ≡ placed c.args.bytes.now fault)) → IfSome told (λ departure. Means c.args.bytes.now (Err departure))
     by_told None fault h t = tt
     by_told (Some told) None h t = absurd t

@@ -15,7 +15,8 @@ use Rattle.flow_graph.proofs.Listing.{IsDoneInRow, row_first, row_more, row_all,
 use Rattle.flow_graph.proofs.edges.add_edges.Goals as goal
 
 -- the node of a place is kept
-kept_at : (program : NumberedProgram) (places : List Place) (from : ℕ) (place : Place) → from < length places → place ≡ get_or places from place → All (IsKeptNode program) (nodes_of places) → IsKeptNode program (node_of place)
+kept_at : (program : NumberedProgram) (places : List Place) (from : ℕ) (place : Place) → from < length places
+    → place ≡ get_or places from place → All (IsKeptNode program) (nodes_of places) → IsKeptNode program (node_of place)
 kept_at program places from place low is kept =
     let long = nodes_long places in
     subst (λ (n : Node). IsKeptNode program n) (stands_is places from place low is (node_of place)) (kept from (node_of place) (omega arith))

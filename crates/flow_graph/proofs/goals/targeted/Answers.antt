@@ -4,7 +4,8 @@ use Rattle.flow_graph.proofs.Targets.{switch_goes}
 use Rattle.flow_graph.proofs.goals.targeted.Goals as goal
 
 -- all has been read
-all_read : (xs : List (Option ℕ)) (ns : List ℕ) (k : ℕ) → length ns ≤ k → xs ++ map (λ (n : ℕ). Some n) (drop k ns) ≡ map (λ (n : ℕ). Some n) ns → xs ≡ map (λ (n : ℕ). Some n) ns
+all_read : (xs : List (Option ℕ)) (ns : List ℕ) (k : ℕ) → length ns ≤ k
+    → xs ++ map (λ (n : ℕ). Some n) (drop k ns) ≡ map (λ (n : ℕ). Some n) ns → xs ≡ map (λ (n : ℕ). Some n) ns
 all_read xs ns k past e = sym (append-nil xs) ∙ sym (ap (λ (rest : List ℕ). xs ++ map (λ (n : ℕ). Some n) rest) (drop_of_length-le ns past)) ∙ e
 
 pub returns : goal.returns

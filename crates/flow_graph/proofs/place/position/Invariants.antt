@@ -7,8 +7,10 @@ abbrev pub invariant-loop-low : goal.invariant-loop-low
 invariant-loop-low l = record {
   low : l.low ≤ l.high;
   within : l.high ≤ length (nodes_of l.places);
-  before : (k : ℕ) → k < l.low → IsBefore (get_or (nodes_of l.places) k (node_at l.path l.block)) (node_at l.path l.block);
-  after : (k : ℕ) → l.high ≤ k → k < length (nodes_of l.places) → IsBefore (node_at l.path l.block) (get_or (nodes_of l.places) k (node_at l.path l.block));
+  before : (k : ℕ) → k < l.low
+      → IsBefore (get_or (nodes_of l.places) k (node_at l.path l.block)) (node_at l.path l.block);
+  after : (k : ℕ) → l.high ≤ k → k < length (nodes_of l.places)
+      → IsBefore (node_at l.path l.block) (get_or (nodes_of l.places) k (node_at l.path l.block));
 }
 
 abbrev pub decreases-loop-low : goal.decreases-loop-low

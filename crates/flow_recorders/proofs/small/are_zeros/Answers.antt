@@ -4,7 +4,8 @@ use Rattle.std.proofs.lemmas.List.{take_all, take_more, replicate_more}
 use Rattle.flow_recorders.proofs.small.are_zeros.Goals as goal
 
 -- one zero more
-zero_more : (xs : List ℕ) (i : ℕ) → i < length xs → get_or xs i 0 ≡ 0 → take i xs ≡ replicate i 0 → take (i + 1) xs ≡ replicate (i + 1) 0
+zero_more : (xs : List ℕ) (i : ℕ) → i < length xs → get_or xs i 0 ≡ 0 → take i xs ≡ replicate i 0
+    → take (i + 1) xs ≡ replicate (i + 1) 0
 zero_more xs i low is zeros =
     take_more xs i 0 low ∙ ap (λ (n : ℕ). take i xs ++ n ∷ []) is ∙ ap (λ (ys : List ℕ). ys ++ 0 ∷ []) zeros ∙ replicate_more i 0
 

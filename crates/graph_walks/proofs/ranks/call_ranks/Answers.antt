@@ -11,7 +11,8 @@ use Rattle.graph_walks.specs.Findings.{IsRankOf}
 use Rattle.graph_walks.proofs.ranks.call_ranks.Goals as goal
 
 module _ (calls : List (List ℕ)) where
-  -- where a function with a rank calls one with a rank, that one's is lower: calls lead there to no more, and not to the caller
+  -- where a function with a rank calls one with a rank, that one's is lower: calls lead there to no more, and not to
+  -- the caller
   rank_falls : (f g rank lower : ℕ) → IsRankOf calls f rank → IsRankOf calls g lower → Calls calls f g → lower < rank
   rank_falls f g rank lower r s call =
       let clear = unmarked_is s.marks f (λ is. let way = s.marking.reached f is in r.alone (on f way.0 way.1)) in

@@ -11,7 +11,8 @@ use Rattle.graph_walks.proofs.Spreading.{search_first, stands_low, search_on, se
 use Rattle.graph_walks.proofs.search.search.Goals as goal
 
 -- what the last node is read from
-last_read : (now path : List ℕ) → now ≡ path → (last : Option (Bor ℕ)) → option_copied last ≡ slice_get now (length now - 1) → (wanted : Option ℕ) → wanted ≡ option_copied last
+last_read : (now path : List ℕ) → now ≡ path → (last : Option (Bor ℕ))
+    → option_copied last ≡ slice_get now (length now - 1) → (wanted : Option ℕ) → wanted ≡ option_copied last
     → slice_get path (length path - 1) ≡ wanted
 last_read now path same last is wanted e = ap (λ (xs : List ℕ). slice_get xs (length xs - 1)) (sym same) ∙ sym is ∙ sym e
 

@@ -8,7 +8,8 @@ use Rattle.report_objections.specs.Objecting.{place_of}
 use Rattle.run_replays.specs.Tests.{breaks as breaks_of}
 use Rattle.run_replays.proofs.meeting.broken.Goals as goal
 
-placed_later : {A : Type 0} (p : A → Bool) (b : ℕ) (xs more : List A) (x : A) (answer : Option ℕ) → xs ≡ x ∷ more → p x ≡ false → place_of p b xs ≡ answer → place_of p (b + 1) more ≡ answer
+placed_later : {A : Type 0} (p : A → Bool) (b : ℕ) (xs more : List A) (x : A) (answer : Option ℕ) → xs ≡ x ∷ more
+    → p x ≡ false → place_of p b xs ≡ answer → place_of p (b + 1) more ≡ answer
 placed_later {A} p b xs more x answer split miss is =
     sym (ap (λ (v : Bool). cond v (Some b) (place_of p (b + 1) more)) miss) ∙ sym (ap (λ (zs : List A). place_of p b zs) split) ∙ is
 

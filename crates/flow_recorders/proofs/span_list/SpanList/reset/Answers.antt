@@ -6,7 +6,8 @@ use Rattle.flow_recorders.proofs.span_list.SpanList.reset.Goals as goal
 use Rattle.flow_recorders.proofs.span_list.SpanList.reset.Goals.{in-Zeros, in-Few, in-Narrow, in-Same, in-Apart}
 
 -- a number that begins anew, among the spans
-begun_anew : (xs ys : List ℕ) (spans : List (ℕ × ℕ)) (i : ℕ) → map only xs ≡ spans → ys ≡ set xs i 0 → map only ys ≡ set spans i (0, 0)
+begun_anew : (xs ys : List ℕ) (spans : List (ℕ × ℕ)) (i : ℕ) → map only xs ≡ spans → ys ≡ set xs i 0
+    → map only ys ≡ set spans i (0, 0)
 begun_anew xs ys spans i is set_so = ap (λ (zs : List ℕ). map only zs) set_so ∙ only_set xs i 0 ∙ ap (λ (zs : List (ℕ × ℕ)). set zs i (0, 0)) is
 
 pub returns : goal.returns

@@ -40,6 +40,16 @@ def loop(turns, body):
     return start + body + more + "{ jump %s leaving 0 } " % label("h") + label("e") + "{ return }"
 
 
+def many(piece, most, front="", back=""):
+    """The pieces of 0, 1, .. between front and back, as many as fit into so many bytes."""
+    made, size, n = [front], len(front) + len(back), 0
+    while size + len(piece(n)) <= most:
+        made.append(piece(n))
+        size += len(made[-1])
+        n += 1
+    return "".join([*made, back])
+
+
 def entry(frame, low, high, size=32, count=1):
     return '[[input]]\nframe = "%s"\noffset = 0\nsize = %d\nlow = %d\nhigh = %d\ncount = %d\n' % (frame, size, low, high, count)
 

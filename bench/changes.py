@@ -1,4 +1,7 @@
-"""Changes of files as pairs of texts, each of which stands once in its file: for the scripts beside this file."""
+"""Changes of files as pairs of texts, each of which stands once in its file: for scripts here and for `.ci/edits`.
+
+They are read as `rt` reads an edit: a line `file: PATH`, and behind it pairs of lines `old: TEXT` and `new: TEXT`.
+"""
 
 import re
 
@@ -6,7 +9,7 @@ PAIRS = re.compile(r"^(?:file: ?(.*)\n)?old: ?(.*)\nnew: ?(.*)$", re.M)
 
 
 def changes_of(text):
-    """The pairs of a text with lines `file:`, `old:` and `new:`, each with the file that it is of."""
+    """The pairs of a text, each with the file that it is of. Other lines are not read."""
     file, found = "", []
     for named, old, new in PAIRS.findall(text):
         file = named or file
@@ -14,15 +17,30 @@ def changes_of(text):
     return found
 
 
-def made(folder, changes, before):
-    """Whether the changes were made, all of them or none. `before` gets each file that they change as it was."""
-    texts = {}
+def unread(text):
+    """The lines of a text that are none of its pairs'."""
+    return [it for it in PAIRS.sub("", text).split("\n") if it]
+
+
+def changed(folder, changes):
+    """The text of each file with its changes made in their order, and each old text that does not stand there once."""
+    texts, faults = {}, []
     for file, old, new in changes:
         path = folder / file
-        text = texts.get(path) or path.read_text(encoding="utf-8")
-        if text.count(old) != 1:
-            return False
-        texts[path] = text.replace(old, new)
+        if path not in texts:
+            texts[path] = path.read_text(encoding="utf-8") if path.is_file() else ""
+        count = texts[path].count(old) if old else 0
+        if count != 1:
+            faults.append(f"stands {count} times: {old}")
+        texts[path] = texts[path].replace(old, new)
+    return texts, faults
+
+
+def made(folder, changes, before):
+    """Whether the changes were made, all of them or none. `before` gets each file that they change as it was."""
+    texts, faults = changed(folder, changes)
+    if faults:
+        return False
     for path, text in texts.items():
         before.setdefault(path, path.read_text(encoding="utf-8"))
         path.write_text(text, encoding="utf-8")

@@ -6,13 +6,11 @@ import hashlib
 import pathlib
 import random
 import re
-import shutil
-import subprocess
 
 from in_profile.head import FORM, with_head
 from view.file_view import View
 from view.origin import Apart, Origin, moved, origin_of
-from view.program import TOP, call
+from view.program import call
 from view.source import Source, read_c
 from view.source_pane import KEYWORDS
 
@@ -21,22 +19,6 @@ MADE = re.compile(r"sw[0-9]+|sweet_\w+")
 # A statement goes on over so many lines at most in the programs that are held.
 REACH = 3
 Fault = tuple[str, str]
-
-
-def lacking() -> str:
-    """What sweet-c needs and this machine does not have."""
-    try:
-        import pycparser  # noqa: F401
-    except ImportError:
-        return "python3-pycparser"
-    return "" if shutil.which("cc") else "cc"
-
-
-def written(path: pathlib.Path, folder: pathlib.Path) -> pathlib.Path | None:
-    """What sweet-c makes of a file."""
-    out = folder / f"{path.stem}_out.c"
-    words = [TOP / "sweet-c", path, "-o", out]
-    return None if subprocess.run(words, stdin=subprocess.DEVNULL, stderr=subprocess.DEVNULL).returncode else out
 
 
 def view_faults(view: View) -> list[str]:

@@ -30,6 +30,7 @@ OPERATORS = {
 }
 OPERATOR_OF = {head: heads for heads in OPERATORS.values() for head in heads.split()}
 
+
 def hold(functions: list[Function], lowered: str) -> int:
     """Compares all items of all functions, and gives each its term. How many there are; `Differs` if one differs."""
     branches = members_of(tree_of(tokens_of(lowered)), "funcs")

@@ -7,7 +7,7 @@ import subprocess
 
 TOP = pathlib.Path(__file__).resolve().parent.parent.parent
 # Options of `analyse` that have a value. Others are passed on as they stand.
-VALUED = ("--root", "--inputs", "--costs", "--merge", "--turns", "--pivots", "--cache")
+VALUED = ("--root", "--inputs", "--costs", "--merge", "--turns", "--pivots")
 
 
 def program_path() -> str:

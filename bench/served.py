@@ -4,6 +4,7 @@ import collections
 import os
 import pathlib
 import shutil
+import signal
 import struct
 import subprocess
 import tempfile
@@ -14,12 +15,17 @@ SOURCE = pathlib.Path(__file__).resolve().parent / "serve.c"
 HEAD = struct.Struct("=6I")
 # status: that of the program, or 256 and the number of the signal that ended it; seconds: of the processor.
 Answer = collections.namedtuple("Answer", "status seconds kilobytes written errors text")
+# The status of a call that was ended since it took too long, by the processor or by the clock.
+ENDED = (256 + signal.SIGPROF, 256 + signal.SIGALRM)
 
 
 class Served:
-    """The program `sweet`, and a folder in memory in which it runs and which has the files that it is told."""
+    """The program `sweet`, and a folder in memory in which it runs and which has the files that it is told.
 
-    def __init__(self, seconds=1):
+    A call that takes more seconds of the processor than these, or sixty times as many by the clock, is ended.
+    """
+
+    def __init__(self, seconds):
         self.room = pathlib.Path(tempfile.mkdtemp(prefix="served-", dir="/dev/shm"))
         self.library = self.room / "serve.so"
         subprocess.run(["cc", "-O1", "-fPIC", "-shared", "-o", self.library, SOURCE, "-ldl"], check=True)

@@ -1,4 +1,4 @@
-"""The programs whose times the scripts beside this file take, what a run takes, and the crates that they stand on."""
+"""The program `sweet`, what a run takes, and the crates that a program stands on."""
 
 import functools
 import os
@@ -10,12 +10,8 @@ import typing
 
 TOP = pathlib.Path(__file__).resolve().parent.parent
 CRATES = TOP / "crates"
-DATA = CRATES / "sweet_bench" / "data"
 # By a run of these words, in its folder, a program is built.
-SHORT_RUNS = {
-    "sweet": ("analyse", "data/a.alf"),
-    "sweet_bench": ("exec", "data/loop.alf", "none", "nothing", "0", "1", "1"),
-}
+SHORT_RUNS = {"sweet": ("analyse", "data/a.alf")}
 
 
 def crates():
@@ -48,11 +44,6 @@ def built(name):
         words = ["rt", "run", "--", *SHORT_RUNS[name]]
         subprocess.run(words, cwd=CRATES / name, stdin=subprocess.DEVNULL, stdout=subprocess.DEVNULL, check=True)
     return made
-
-
-def bench_of(subject):
-    """The words that begin each run of a subject: the program `sweet_bench`, and the subject."""
-    return [str(built("sweet_bench")), subject]
 
 
 class Run(typing.NamedTuple):

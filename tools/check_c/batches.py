@@ -30,8 +30,8 @@ class Rewritten:
         is_plain = not re.search(r"#|//|/\*|__|\\\n|\b(inline|restrict|register)\b", text)
         self.source, self.made, found = "", "", []
         try:
-            text = given.read_bytes().decode("latin-1")
-            source = marked(text, str(given)) if is_plain else preprocessed(str(given))
+            data = text.encode()
+            source = marked(data.decode("latin-1"), str(given)) if is_plain else preprocessed(str(given), data)
             self.source, found = source.text, list(source.reasons)
             self.program = Program(parsed(self.source, str(given)), str(given))
             self.made = self.program.written()

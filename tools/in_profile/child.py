@@ -23,13 +23,8 @@ class Ran:
     err: bytes
 
 
-def operand(name: str | pathlib.Path) -> str:
-    """A name as a program takes it for that of a file: one that begins with @ or - could be its options."""
-    name = str(name)
-    return name if name[:1].isalnum() or name.startswith(("/", ".", "_")) else f"./{name}"
-
-
-def run(words: list[str], seconds: float, given: bytes = b"", most: int = MOST_WRITTEN) -> Ran:
+def run(words: list[str], seconds: float, given: bytes = b"", most: int = MOST_WRITTEN,
+        folder: pathlib.Path | None = None) -> Ran:
     """Runs a program on these bytes. It has so many seconds, and each of its files at most so many bytes."""
 
     def limit() -> None:
@@ -42,7 +37,8 @@ def run(words: list[str], seconds: float, given: bytes = b"", most: int = MOST_W
     with tempfile.TemporaryFile() as file, tempfile.TemporaryFile() as out, tempfile.TemporaryFile() as err:
         file.write(given)
         file.seek(0)
-        status = waited(words, seconds, {"stdin": file, "stdout": out, "stderr": err, "preexec_fn": limit})
+        how = {"stdin": file, "stdout": out, "stderr": err, "preexec_fn": limit, "cwd": folder}
+        status = waited(words, seconds, how)
         out.seek(0)
         err.seek(0)
         return Ran(status, out.read(most), err.read(most))

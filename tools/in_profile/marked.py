@@ -1,6 +1,7 @@
 """What is struck out of a text after the preprocessor, and what is said against it: attributes, `#pragma`, assembly."""
 
 import dataclasses
+import os
 import re
 
 from .meanings import against_attribute, against_pragma
@@ -31,15 +32,15 @@ class Text:
 
     def name(self, given: str) -> str:
         """The name that one of the file has in the text."""
-        own = same(given.encode("utf-8", "surrogateescape").decode("latin-1"))
+        own = same(os.fsencode(given).decode("latin-1"))
         return self.renamed.get(own, given)
 
 
 class Marked:
     """The pieces of one text, gone through once: `edits` are what takes the place of some."""
 
-    def __init__(self, text: str, file: str) -> None:
-        self.text, self.names = text, Names()
+    def __init__(self, text: str, file: str, names: Names) -> None:
+        self.text, self.names = text, names
         self.pieces = list(pieces(text, self.names, file))
         self.edits: list[tuple[int, int, str]] = []
         self.reasons: dict[Told, None] = {}
@@ -177,6 +178,8 @@ class Marked:
         if re.fullmatch(r"[A-Za-z_]\w*", it.text, re.A) and it.text != "_Imaginary":
             return
         own = same(it.text)
+        if not readable(own):
+            self.against(it, "a name with a letter that names of C have not")
         if own not in self.renamed:
             self.renamed[own] = self.free(re.sub(r"\W", "_", own, flags=re.A))
             told = f"{readable(own)} is no name that sweet reads, and becomes {self.renamed[own]}"
@@ -198,17 +201,20 @@ def same(name: str) -> str:
     """A name of C in one spelling: letters outside of ASCII may be written by their numbers."""
     def letter(found: re.Match[str]) -> str:
         number = int(found[1] or found[2], 16)
-        is_one = number < 0x110000 and not 0xD800 <= number < 0xE000
+        is_one = number == ord("$") or 0xA0 <= number < 0xD800 or 0xE000 <= number < 0x110000
         return chr(number).encode().decode("latin-1") if is_one else "?"
 
     return re.sub(r"\\u([0-9a-fA-F]{4})|\\U([0-9a-fA-F]{8})", letter, name)
 
 
 def readable(name: str) -> str:
-    """A name as it is told: bytes of UTF-8 as their letters."""
-    found = name.encode("latin-1").decode("utf-8", "replace")
-    return found if found.isprintable() else re.sub(r"\W", "_", name, flags=re.A)
+    """A name as it is told, where it is one."""
+    try:
+        found = name.encode("latin-1").decode()
+    except UnicodeDecodeError:
+        return ""
+    return found if found.replace("$", "_").isidentifier() else ""
 
 
-def marked(text: str, file: str) -> Text:
-    return Marked(text, file).whole()
+def marked(text: str, file: str, names: Names | None = None) -> Text:
+    return Marked(text, file, names or Names()).whole()

@@ -9,6 +9,8 @@ from .refusal import Refusal, outside
 # Levels of a tree, and frames of Python that are enough for the work on most that have so many.
 DEEPEST, FRAMES = 500, 8000
 TOO_DEEP = f"expressions and statements nested deeper than {DEEPEST}"
+# Parts of a tree that are statements or declarations.
+STATEMENTS = re.compile(r"ext|block_items|stmt|iftrue|iffalse|decl|body|next|init")
 
 
 def lacking(what: str, package: str) -> Refusal:
@@ -59,12 +61,13 @@ def placed(told: str, file: str, line: int) -> str:
 
 
 def look_at_depth(tree: object, name: str) -> None:
-    """Sees that the work on a tree goes no deeper than it may."""
-    ahead = [(tree, 0, None)]
+    """Sees that the work on a tree goes no deeper than it may; what does is told at the line of its statement."""
+    ahead = [(tree, 0, (name, 0))]
     while ahead:
-        node, depth, coord = ahead.pop()
-        coord = getattr(node, "coord", None) or coord
+        node, depth, place = ahead.pop()
         if depth > DEEPEST:
-            place = (str(coord.file), coord.line) if coord else (name, 0)
             raise Refusal(outside(*place, TOO_DEEP))
-        ahead += [(it, depth + 1, coord) for _, it in node.children()]
+        for role, it in node.children():
+            coord = getattr(it, "coord", None)
+            starts = coord and STATEMENTS.match(role)
+            ahead.append((it, depth + 1, (str(coord.file), coord.line) if starts else place))

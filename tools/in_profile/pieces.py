@@ -2,6 +2,7 @@
 
 import collections.abc
 import dataclasses
+import os
 import re
 
 from .refusal import shown
@@ -41,13 +42,21 @@ def unescaped(name: str) -> bytes:
     return ESCAPED.sub(byte, name.encode("latin-1"))
 
 
-class Names:
-    """Names of files as they are told: no two files have one."""
+def escaped(name: str) -> bytes:
+    """A name of a file as it stands in a line of the preprocessor."""
+    return b"".join(b"\\%03o" % it if it in b'"\\' or not 32 <= it < 127 else bytes([it]) for it in os.fsencode(name))
 
-    def __init__(self) -> None:
+
+class Names:
+    """Names of files as they are told: no two files have one. Those in the folder of IN.c stand as if it were named."""
+
+    def __init__(self, folder: str = "", told_folder: str = "") -> None:
+        self.folder, self.told_folder = folder, told_folder
         self.told: dict[str, str] = {}
 
     def of(self, name: str) -> str:
+        if self.folder and name.startswith(self.folder):
+            name = self.told_folder + name[len(self.folder) :]
         if name not in self.told:
             it = shown(name)
             while it in self.told.values():
@@ -65,12 +74,13 @@ def pieces(text: str, names: Names, file: str) -> collections.abc.Iterator[Piece
             line += 1
         elif it["number"]:
             if it["file"] is not None:
-                told = names.of(unescaped(it["file"]).decode("utf-8", "surrogateescape"))
+                told = names.of(os.fsdecode(unescaped(it["file"])))
             line = int(it["number"])
             yield Piece("place", f'#line {line} "{told}"', it.start(), it.end(), told, line)
             # The line feed behind it is counted too.
             line -= 1
         elif it["word"]:
-            yield Piece("pragma", it["rest"].strip() if it["word"] == "pragma" else "ident", it.start(), it.end(), told, line)
+            word = it["rest"].strip() if it["word"] == "pragma" else "ident"
+            yield Piece("pragma", word, it.start(), it.end(), told, line)
         else:
             yield Piece(kind, it[0], it.start(), it.end(), told, line)

@@ -11,7 +11,7 @@ from in_profile.refusal import Refusal, Told, outside
 from in_profile.trial import SHAPE, built, difference, is_same, outcomes, tail
 
 WORDS = set("""auto break case char const continue default do double else enum extern float for goto if inline int long
-register restrict return short signed sizeof static struct switch typedef union unsigned void volatile while _Bool abort
+register restrict return short signed sizeof static struct switch typedef union unsigned void volatile while _Alignas _Bool abort
 exit _exit __builtin_abort __builtin_trap""".split())
 # Strings, characters, comments, names and numbers.
 PIECES = re.compile(
@@ -27,7 +27,7 @@ class Rewritten:
     def __init__(self, text, room):
         given = pathlib.Path(room, "given.c")
         given.write_text(text, encoding="utf-8")
-        is_plain = not re.search(r"#|//|/\*|__|\\\n|\b(inline|restrict|register)\b", text)
+        is_plain = not re.search(r"#|//|/\*|__|\\\n|\b(inline|restrict|register|_Pragma)\b", text)
         self.source, self.made, found = "", "", []
         try:
             data = text.encode()

@@ -2,11 +2,11 @@
 
 import re
 
-# What is struck out, by what it is about. docs/programs.md shows both tables, and tools/check-c holds the page to them.
+# What is struck out, by what it is about. docs/programs.md shows the tables, and tools/check-c holds the page to them.
 STRUCK_OUT = {
-    "what a compiler tells of it": """access deprecated designated_init fallthrough format format_arg nonstring sentinel
-        unavailable unused used warn_unused_result warning""",
-    "how its code is made": """alloc_align alloc_size always_inline artificial assume_aligned cold const externally_visible
+    "what a compiler tells": """access deprecated fallthrough format format_arg nonstring sentinel unused used
+        warn_unused_result warning""",
+    "how code is made": """alloc_align alloc_size always_inline artificial assume_aligned cold const externally_visible
         flatten hot leaf malloc may_alias no_icf no_instrument_function no_profile_instrument_function no_reorder
         no_sanitize no_sanitize_address no_sanitize_thread no_sanitize_undefined no_split_stack no_stack_limit
         no_stack_protector noclone noinline noipa nonnull noreturn nothrow pure retain returns_nonnull stack_protect
@@ -14,22 +14,24 @@ STRUCK_OUT = {
     "where an object lies, which no program of the profile can see": "aligned common nocommon",
 }
 REFUSED = {
-    "the size of its type": "mode packed vector_size",
-    "how its bytes are read": "scalar_storage_order transparent_union",
+    "the size of a type": "mode packed vector_size",
+    "how bytes are read": "scalar_storage_order transparent_union",
     "which function is called, or which object is meant": "alias copy gnu_inline ifunc symver weak weakref",
-    "what runs": "cleanup constructor destructor error interrupt naked returns_twice signal",
-    "its first value": "no_init noinit persistent section",
-    "its object in each thread": "tls_model",
-    "how its operations are made": "optimize simd target target_clones",
+    "what runs": "cleanup constructor destructor error interrupt naked returns_twice signal unavailable",
+    "the first value": "no_init noinit persistent section",
+    "the object of each thread": "tls_model",
+    "how operations are made": "optimize simd target target_clones",
 }
+# A name of two words has a low line between them here.
 STRUCK_PRAGMAS = {
-    "what a compiler tells": "GCC_dependency GCC_diagnostic GCC_warning clang_diagnostic endregion ident mark message region",
+    "what a compiler tells": """GCC_dependency GCC_diagnostic GCC_warning clang_diagnostic endregion ident mark message
+        region""",
     "what the preprocessor has done": "GCC_poison GCC_system_header once pop_macro push_macro",
     "how code is made": "GCC_pop_options GCC_push_options GCC_unroll GCC_visibility",
     "floating point": "STDC_CX_LIMITED_RANGE STDC_FENV_ACCESS STDC_FP_CONTRACT",
 }
 REFUSED_PRAGMAS = {
-    "sizes and places of members": "pack",
+    "sizes and places": "pack",
     "how bytes are read": "scalar_storage_order",
     "which function is called, or which object is meant": "redefine_extname weak",
     "how operations are made": "GCC_optimize GCC_target",
@@ -38,7 +40,7 @@ REFUSED_PRAGMAS = {
 
 
 def members(table: dict[str, str]) -> dict[str, str]:
-    """What is told of each name of a table. A name of two words has a low line between them there."""
+    """What is told of each name of a table."""
     return {spelled(name): about for about, names in table.items() for name in names.split()}
 
 

@@ -116,7 +116,7 @@ def names_beside(name: str) -> Names:
 
 
 def words_of(folder: pathlib.Path, names: Names) -> list[str]:
-    words = ["cc", "-E", "-std=gnu99", "-nostdinc", "-undef", "-iquote", names.folder, f"-I{folder}", *DEFINED]
+    words = ["cc", "-E", "-w", "-std=gnu99", "-nostdinc", "-undef", "-iquote", names.folder, f"-I{folder}", *DEFINED]
     # Of a folder with this sign the compiler would take a part.
     if "=" not in names.folder:
         words.append(f"-fmacro-prefix-map={names.folder}={names.told_folder}")

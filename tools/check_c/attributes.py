@@ -77,12 +77,12 @@ def pragmas(form: str, room: pathlib.Path) -> str:
     return "" if it.reasons == faults else f"it is out for {sorted({*it.reasons} ^ {*faults})}"
 
 
-def shown(table: dict[str, str], page: str) -> str:
+def shown(table: dict[str, str], what: str, page: str) -> str:
     """What the page has of a table otherwise than the script, or nothing."""
-    rows = [it for it in page.splitlines() if it.startswith("|")]
+    rows = [it for it in page.splitlines() if it.startswith("| `")]
     for about in table:
         own = members({about: table[about]})
-        if not any(it.endswith(f"| {about} |") and set(re.findall(r"`([^`]+)`", it)) == {*own} for it in rows):
+        if not any(it.endswith(f"| {what} | {about} |") and set(re.findall(r"`([^`]+)`", it)) == {*own} for it in rows):
             return f"docs/programs.md has no such row for {about!r}"
     return ""
 
@@ -95,5 +95,7 @@ def checks(room: pathlib.Path) -> collections.abc.Iterator[tuple[str, str]]:
     for form in ("#pragma {}", '_Pragma("{}")'):
         yield f"lines of {form}", pragmas(form, room)
     page = PAGE.read_text(encoding="utf-8")
-    for number, table in enumerate((STRUCK_OUT, REFUSED, STRUCK_PRAGMAS, REFUSED_PRAGMAS), 1):
-        yield f"table {number} of docs/programs.md", shown(table, page)
+    for table in (STRUCK_OUT, STRUCK_PRAGMAS):
+        yield "what is struck out on docs/programs.md", shown(table, "struck out", page)
+    for table in (REFUSED, REFUSED_PRAGMAS):
+        yield "what is refused on docs/programs.md", shown(table, "refused", page)

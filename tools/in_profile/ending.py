@@ -1,4 +1,4 @@
-"""The end by a signal: what was begun is cleaned up, and the status tells the signal."""
+"""The end by a signal, or by the time: what was begun is cleaned up, and the status tells the signal."""
 
 import collections.abc
 import contextlib
@@ -9,6 +9,8 @@ import tempfile
 import types
 
 SIGNALS = (signal.SIGTERM, signal.SIGINT, signal.SIGHUP)
+# It comes after so many seconds of the processor, of our own work alone.
+LATE, SECONDS = signal.SIGPROF, 120
 
 
 class Ended(BaseException):
@@ -28,7 +30,7 @@ class Guard:
 
 def take(number: int, _frame: types.FrameType | None) -> None:
     # A second signal would end the cleaning up.
-    for it in SIGNALS:
+    for it in (*SIGNALS, LATE):
         signal.signal(it, signal.SIG_IGN)
     if Guard.depth:
         Guard.waiting = number
@@ -39,13 +41,15 @@ def take(number: int, _frame: types.FrameType | None) -> None:
 @contextlib.contextmanager
 def listening() -> collections.abc.Iterator[None]:
     """Makes an Ended of each signal, but of one that the caller has ignored, as nohup does."""
-    before = {it: signal.getsignal(it) for it in SIGNALS}
+    before = {it: signal.getsignal(it) for it in (*SIGNALS, LATE)}
     try:
         for it, handler in before.items():
             if handler is not signal.SIG_IGN:
                 signal.signal(it, take)
+        signal.setitimer(signal.ITIMER_PROF, SECONDS)
         yield
     finally:
+        signal.setitimer(signal.ITIMER_PROF, 0)
         for it, handler in before.items():
             signal.signal(it, handler)
 

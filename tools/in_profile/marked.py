@@ -8,7 +8,8 @@ from .meanings import against_attribute, against_pragma
 from .pieces import Names, Piece, pieces
 from .refusal import Refusal, Told, outside
 
-DEEPEST = 256
+# Brackets in one another, and characters of a line: one release of the parser looks through a line at each of its tokens.
+DEEPEST, LONGEST = 256, 4000
 C99 = frozenset("""auto break case char const continue default do double else enum extern float for goto if inline int
 long register restrict return short signed sizeof static struct switch typedef union unsigned void volatile while _Bool
 _Complex _Imaginary""".split())
@@ -83,10 +84,21 @@ class Marked:
                 if why:
                     self.against(it, why)
                 self.strike(it.start, it.end)
+        self.break_lines()
         at = 0
         while at < len(self.code):
             at = self.step(at)
         return Text(self.edited(), self.names.told, self.renamed, list(self.reasons), self.notes)
+
+    def break_lines(self) -> None:
+        """Goes on in a further line, which counts as the same, where one is long."""
+        line, start = 0, 0
+        for it in self.code:
+            if it.line != line:
+                line, start = it.line, it.start
+            elif it.start - start > LONGEST and it.kind == "name":
+                start = it.start
+                self.edits.append((start, start, f'\n#line {it.line} "{it.file}"\n'))
 
     def edited(self) -> str:
         found, at = [], 0

@@ -3,13 +3,15 @@
 import pathlib
 import re
 
-from in_profile.command import parsed
+from in_profile.marked import marked
+from in_profile.parser import parsed
 from in_profile.preprocessor import preprocessed
 from in_profile.program import Program
+from in_profile.refusal import Refusal, Told, outside
 from in_profile.trial import SHAPE, built, difference, is_same, outcomes, tail
 
 WORDS = set("""auto break case char const continue default do double else enum extern float for goto if inline int long
-register restrict return short signed sizeof static struct switch typedef union unsigned void volatile while _Bool abort
+register restrict return short signed sizeof static struct switch typedef union unsigned void volatile while _Alignas _Bool abort
 exit _exit __builtin_abort __builtin_trap""".split())
 # Strings, characters, comments, names and numbers.
 PIECES = re.compile(
@@ -24,17 +26,29 @@ class Rewritten:
 
     def __init__(self, text, room):
         given = pathlib.Path(room, "given.c")
-        given.write_text(text, encoding="latin-1")
-        is_plain = not re.search(r"#|//|/\*|__|\\\n|\b(inline|restrict|register)\b", text)
-        self.source = text if is_plain else preprocessed(str(given))
-        self.program = Program(parsed(self.source, str(given)), str(given))
-        self.made = self.program.written()
-        self.reasons = sorted((line, why) for _, line, why in self.program.reasons)
-        self.notes = {what for _, _, what in self.program.notes}
+        given.write_text(text, encoding="utf-8")
+        is_plain = not re.search(r"#|//|/\*|__|\\\n|\b(inline|restrict|register|_Pragma)\b", text)
+        self.source, self.made, found = "", "", []
+        try:
+            data = text.encode()
+            source = marked(data.decode("latin-1"), str(given)) if is_plain else preprocessed(str(given), data)
+            self.source, found = source.text, list(source.reasons)
+            self.program = Program(parsed(self.source, str(given)), str(given))
+            self.made = self.program.written()
+            found += [outside(*it) for it in self.program.reasons]
+            self.notes = {it.what for it in source.notes} | {what for _, _, what in self.program.notes}
+        except Refusal as it:
+            found += it.told
+        self.reasons = sorted({(it.line, said(it, str(given))) for it in found})
 
     def frames(self):
         """The globals: their names before and after, and their sizes."""
         return [(name, it.text, it.kind.size) for name, it in sorted(self.program.objects.items())]
+
+
+def said(it: Told, name: str) -> str:
+    """What is said of a text, without the name of its file."""
+    return it.what.removeprefix("outside of the profile: ").replace(f"{name}:", "").replace(name, "it")
 
 
 def prefixed(text, prefix):

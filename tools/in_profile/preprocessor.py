@@ -1,11 +1,18 @@
 """The text of a program after `cc -E`, with the headers of C as far as the profile has them."""
 
+import codecs
+import os
 import pathlib
 import re
 import shutil
-import subprocess
-import sys
-import tempfile
+
+from .child import run
+from .ending import room
+from .files import MOST
+from .marked import Text, marked
+from .parser import lacking
+from .pieces import Names, escaped, pieces
+from .refusal import Refusal, Told, shown
 
 SIZES = "typedef unsigned int size_t; typedef int ptrdiff_t; typedef int wchar_t;\n#define NULL 0\n"
 WHOLE = """#ifndef SWEET_STDINT
@@ -67,42 +74,62 @@ HEADERS = {
     "assert.h": ASSERT, "limits.h": ONCE.format("LIMITS", LIMITS),
     "stdbool.h": ONCE.format("TRUTH", "#define bool _Bool\n#define true 1\n#define false 0\n"),
 }
-DEFINED = ["-D__attribute__(x)=", "-D__extension__=", "-D__inline=", "-D__inline__=", "-Dinline=",
+DEFINED = ["-D__extension__=", "-D__inline=", "-D__inline__=", "-Dinline=",
            "-D__restrict=", "-D__restrict__=", "-Drestrict=", "-D__signed__=signed", "-D__const=const",
            "-D_Noreturn=", "-D__volatile__=volatile", "-D__builtin_expect(x,y)=((long)(x))"]
+# Seconds of the preprocessor, and bytes of what it says that are told.
+SECONDS, MOST_TOLD = 10, 4000
+CAME = re.compile(r"In file included from |  +from ")
 
 
-def lacking(what, package):
-    sys.exit(f"sweet-c: {what} is missing: install the Debian package {package}")
+def preprocessed(name: str, data: bytes) -> Text:
+    """The text of a file with these bytes after the preprocessor, with lines that tell where each piece comes from.
 
-
-def preprocessed(name):
-    """The text of the file after the preprocessor, with lines that tell where each comes from."""
+    The name is told to the preprocessor in a line of the text: among its words it could be taken for an option, also
+    behind its folder, since the compiler is called by its last part.
+    """
     if not shutil.which("cc"):
-        lacking("the preprocessor `cc -E`", "gcc")
-    if not pathlib.Path(name).is_file():
-        sys.exit(f"sweet-c: there is no file {name}")
-    with tempfile.TemporaryDirectory(prefix="sweet-c-") as room:
+        raise lacking("the preprocessor `cc -E`", "gcc")
+    names = names_beside(name)
+    given = b'# 1 "%s"\n%s' % (escaped(name), data.removeprefix(codecs.BOM_UTF8))
+    with room() as folder:
         for header, text in HEADERS.items():
-            pathlib.Path(room, header).write_text(text, encoding="ascii")
-        words = ["cc", "-E", "-std=gnu99", "-nostdinc", "-undef", "-D__STDC__=1", f"-I{room}", *DEFINED, name]
-        ran = subprocess.run(words, stdin=subprocess.DEVNULL, capture_output=True)
-    if ran.returncode:
-        sys.exit(f"sweet-c: the preprocessor refuses {name}:\n{ran.stderr.decode(errors='replace')}")
-    text = re.sub(r"^# (\d+ \"[^\"\n]*\").*$", r"#line \1", ran.stdout.decode("latin-1"), flags=re.M)
-    return without_assembly(text)
+            (folder / header).write_text(text, encoding="ascii")
+        # What stands in quotes is looked for here first.
+        (folder / "empty").mkdir()
+        ran = run(words_of(folder, names), SECONDS, given, MOST + 1, folder / "empty")
+    text = ran.out.decode("latin-1")
+    if ran.status is None:
+        raise Refusal(at_end(text, name, names, f"the preprocessor has no end in {SECONDS} seconds"))
+    if len(ran.out) > MOST:
+        raise Refusal(at_end(text, name, names, f"the text after the preprocessor has more than {MOST:,} bytes"))
+    if ran.status:
+        found = told(ran.err).replace(names.folder, names.told_folder)
+        raise Refusal(f"the preprocessor refuses {shown(name)}:\n{found}")
+    return marked(text, name, names)
 
 
-def without_assembly(text):
-    """The text, in which each piece of assembly is the name of a function that is nowhere."""
-    found = re.search(r"\b(?:asm|__asm__|__asm)\b\s*(?:(?:volatile|__volatile|goto|inline)\s*)*\(", text)
-    if not found:
-        return text
-    at, open_ = found.end(), 1
-    for it in re.finditer(r'"(?:[^"\\\n]|\\.)*"|[()]', text[at:]):
-        open_ += {"(": 1, ")": -1}.get(it[0], 0)
-        if not open_:
-            rest = text[at + it.end() :]
-            lines = "\n" * text[found.start() : at + it.end()].count("\n")
-            return text[: found.start()] + "assembly()" + lines + without_assembly(rest)
-    return text
+def names_beside(name: str) -> Names:
+    """Names of files: the compiler has the whole path of those beside IN.c, and they are told as IN.c is."""
+    folder = name[: name.rfind("/") + 1]
+    return Names(os.path.join(os.getcwd(), folder), folder)
+
+
+def words_of(folder: pathlib.Path, names: Names) -> list[str]:
+    words = ["cc", "-E", "-w", "-std=gnu99", "-nostdinc", "-undef", "-iquote", names.folder, f"-I{folder}", *DEFINED]
+    # Of a folder with this sign the compiler would take a part.
+    if "=" not in names.folder:
+        words.append(f"-fmacro-prefix-map={names.folder}={names.told_folder}")
+    return [*words, "-x", "c", "-"]
+
+
+def at_end(text: str, name: str, names: Names, what: str) -> Told:
+    """What is told of a text that has no end, at the place that it came to."""
+    *_, last = [None, *pieces(text[:MOST], names, name)]
+    return Told(last.file, last.line, what) if last else Told(shown(name), 0, what)
+
+
+def told(err: bytes) -> str:
+    """What a compiler says, without the ways of files to one another, and without bytes that a terminal would obey."""
+    lines = [it for it in err.decode("utf-8", "replace").splitlines() if it and not CAME.match(it)]
+    return "\n".join("".join(it if it.isprintable() else "_" for it in line) for line in lines)[:MOST_TOLD]

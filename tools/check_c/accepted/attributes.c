@@ -15,3 +15,17 @@ int f(void); int main(void) { int f(void); extern int g; return f() + g; } int g
 int t[4] __attribute__((aligned(8))) = {1, 2, 3, 4}; int unused(int x __attribute__((unused))) { return 1; } int main(void) { return t[3] + unused(3); }
 
 int x; int x; extern int x; int x = 6; int a[]; int a[3]; int main(void) { a[2] = x; return a[2] + sizeof a; }
+
+typedef int word __attribute__((aligned(4))); _Alignas(8) word a[2] = {1, 2}; word b __attribute__ ((__unused__ , aligned (16))) = 3; int main(void) { return a[1] + b + sizeof a; }
+
+#pragma once
+#pragma GCC diagnostic push
+#pragma GCC diagnostic ignored "-Wunused"
+int f(int x) __attribute__((
+  pure)); int f(int x) { return x + 1; }
+_Pragma("GCC diagnostic pop") int main(void) {
+#pragma GCC unroll 4
+  for (int i = 0; i < 3; i++) ; return f(__LINE__); }
+
+#define FALL __attribute__((fallthrough))
+__extension__ __attribute__((__noreturn__)) void die(void) { for (;;) ; } int main(void) { int s = 0; switch (s) { case 0: s = 4; FALL; case 1: s++; break; default: die(); } return s; }

@@ -1,12 +1,12 @@
 // more than the profile allows
 
-// 0: more than 8192 elements of arrays: 9000
+// 1: more than 8192 elements of arrays: 9000
 int a[9000]; int main(void) { return a[0]; }
 
 // 1: statements nested deeper than 32
 int main(void) { int x = 1; { { { { { { { { { { { { { { { { { { { { { { { { { { { { { { { { { { { { { { { { x++; } } } } } } } } } } } } } } } } } } } } } } } } } } } } } } } } } } } } } } } } return x; }
 
-// 0: more than 256 objects, parameters and calls that give a value: 392
+// 86: more than 256 objects, parameters and calls that give a value: 392
 int f(int x) { return x; } int main(void) { int s = 0;
   s += f(s) + 1;
   s += f(s) + 1;

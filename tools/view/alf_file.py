@@ -2,7 +2,7 @@
 
 import typing
 
-from view.alf_tree import Branch, members_of, names_in, part_of, tokens_of, tree_of
+from view.alf_tree import Branch, members_of, names_in, part_of, printed_words, tokens_of, tree_of
 from view.c_tokens import Token
 from view.c_units import Global
 from view.differs import Differs
@@ -13,8 +13,8 @@ def program_of(text: str, printed: str) -> tuple[list[Token], list[Function], di
     """The tokens of a text, its functions, and its global frames. `Differs` where its items are not those of the
     canonical text that is printed for it."""
     tokens = tokens_of(text)
-    tree = tree_of(tokens)
-    if plain(tree) != plain(tree_of(tokens_of(printed))):
+    tree = tree_of(it.text for it in tokens)
+    if plain(tree) != plain(tree_of(printed_words(printed))):
         raise Differs("the items of the file are not those that `print` has")
     functions = [function_of(it, tokens) for it in members_of(tree, "funcs")]
     # { alloc 32 "name" BITS }

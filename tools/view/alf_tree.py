@@ -4,7 +4,7 @@ import collections.abc
 import re
 import typing
 
-from view.c_tokens import Token
+from view.c_tokens import Token, tokens_by
 from view.differs import Differs
 
 WORD = re.compile(
@@ -14,9 +14,12 @@ WORD = re.compile(
 | (?P<brace>[{}])
 | (?P<number>[0-9]+)
 | (?P<word>\w+)
+| (?P<other>.)
 """,
     re.X | re.S,
 )
+# Of a text that the program printed, which has no comments. Most of the time of a large file went into its spaces.
+PRINTED = re.compile(r'"[^"]*"|[{}]|\w+|\S')
 
 
 class Branch(list):
@@ -33,33 +36,35 @@ class Branch(list):
 
 def tokens_of(text: str) -> list[Token]:
     """The tokens in order; comments are space."""
-    found, line, begin, at = [], 0, 0, 0
-    while at < len(text):
-        match = WORD.match(text, at)
-        if match is None:
-            raise Differs(f"a byte of no token of ALF at line {line + 1}")
-        piece, at = match.group(), match.end()
-        if match.lastgroup != "space":
-            found.append(Token(match.lastgroup, piece, match.start(), line, match.start() - begin))
-        elif "\n" in piece:
-            line += piece.count("\n")
-            begin = match.start() + piece.rindex("\n") + 1
+    found = tokens_by(WORD, text)
+    for it in found:
+        if it.kind == "other":
+            raise Differs(f"a byte of no token of ALF at line {it.line + 1}")
     return found
 
 
-def tree_of(tokens: list[Token]) -> Branch:
+def printed_words(text: str) -> list[str]:
+    """The words of a text that the program printed."""
+    words = PRINTED.findall(text)
+    for it in set(words):
+        if len(it) == 1 and not (it in "{}" or it == "_" or it.isalnum()):
+            raise Differs(f"a byte {it} of no token of ALF")
+    return words
+
+
+def tree_of(words: collections.abc.Iterable[str]) -> Branch:
     """The one tree of a text."""
     whole = Branch(0)
     open_branches = [whole]
-    for number, token in enumerate(tokens):
-        if token.text == "{":
+    for number, word in enumerate(words):
+        if word == "{":
             open_branches.append(Branch(number))
-        elif token.text == "}" and len(open_branches) > 1:
+        elif word == "}" and len(open_branches) > 1:
             branch = open_branches.pop()
             branch.last = number
             open_branches[-1].append(branch)
         else:
-            open_branches[-1].append(token.text)
+            open_branches[-1].append(word)
     if len(open_branches) != 1 or len(whole) != 1 or not isinstance(whole[0], Branch):
         raise Differs("the text of ALF has no whole tree")
     return whole[0]
@@ -71,7 +76,7 @@ def branches_in(branch: Branch) -> collections.abc.Iterator[Branch]:
     while ahead:
         branch = ahead.pop()
         yield branch
-        ahead += [it for it in reversed(branch) if isinstance(it, Branch)]
+        ahead += [it for it in reversed(branch) if type(it) is Branch]
 
 
 def names_in(branch: Branch, word: str) -> list[str]:

@@ -2,7 +2,7 @@
 
 import itertools
 
-from view.alf_tree import Branch, branches_in, members_of, names_in, number_of, part_of, tokens_of, tree_of
+from view.alf_tree import Branch, branches_in, members_of, names_in, number_of, part_of, printed_words, tree_of
 from view.differs import Differs
 from view.items import Function, Item, Mark
 
@@ -33,7 +33,7 @@ OPERATOR_OF = {head: heads for heads in OPERATORS.values() for head in heads.spl
 
 def hold(functions: list[Function], lowered: str) -> int:
     """Compares all items of all functions, and gives each its term. How many there are; `Differs` if one differs."""
-    branches = members_of(tree_of(tokens_of(lowered)), "funcs")
+    branches = members_of(tree_of(printed_words(lowered)), "funcs")
     if len(branches) != len(functions):
         raise Differs(f"{len(functions)} functions in the file, {len(branches)} in `lower`")
     return sum(hold_function(function, branch) for function, branch in zip(functions, branches))

@@ -1,25 +1,21 @@
 """All that is shown of a file: its source, and as much of the analysis as there is."""
 
 import dataclasses
-import os
 
 from view.alarms import Alarms
 from view.differs import Differs
 from view.exclusions import Exclusion, exclusions_of
+from view.given_file import Unreadable, text_of
 from view.given_inputs import given_at_lines
 from view.lines import Lines
 from view.loops import Loops
 from view.model import Model
 from view.origin import Apart, Origin, moved, origin_of
-from view.program import call, options_of
-from view.refusals import refusal_of, waiting_place
+from view.program import call, options_of, unproved
+from view.refusals import Refusal, refusal_of, waiting_place
 from view.report import Report
 from view.row_order import RowOrder
 from view.source import SURPRISES, Source, read_alf, read_c
-
-
-class Unreadable(Exception):
-    """There is nothing to show: the file cannot be read."""
 
 
 class Analysis:
@@ -40,7 +36,8 @@ class View:
     """A file with its text, the words of the call, and the program's answer with its status.
 
     `origin` is the file that it was written from, if its lines are shown: `text` is then of that file. `differs` says
-    why no line is marked, `refusal` why there is no report, and `place` where; `notes` are further sentences.
+    why no line is marked, `refusal` why there is no report, and `place` where; `unproved` says that the answers are not
+    of the proved program, and `notes` are further sentences.
     """
 
     path: str
@@ -53,7 +50,8 @@ class View:
     report: Report | None = None
     analysis: Analysis | None = None
     differs: str = ""
-    refusal: str = ""
+    refusal: Refusal | None = None
+    unproved: str = ""
     place: tuple[int, int, str] | None = None
     given: dict[int, list[str]] = dataclasses.field(default_factory=dict)
     notes: list[str] = dataclasses.field(default_factory=list)
@@ -64,33 +62,41 @@ class View:
         return self.origin.path if self.origin else self.path
 
     @property
+    def why_not(self) -> str:
+        """Why there is no report, or why no line is marked, in a sentence."""
+        where = f" It is at line {self.place[0] + 1} of {self.shown_path}." if self.place else ""
+        differs = f"No line of {self.path} is marked, since the rules of this viewer and of ./sweet do not agree on it: "
+        told = [f"There is no report on {self.path}. {self.refusal.words}{where}"] if self.refusal else []
+        return " ".join([*told, *([f"{differs}{self.differs}."] if self.differs else [])])
+
+    @property
     def rows(self) -> list[str]:
         """The lines of the text. A line ends at a line feed alone."""
         rows = self.text.split("\n")
         return rows[:-1] if rows[-1] == "" else rows
 
 
-def look(words: list[str], is_own: bool = False) -> View:
+def look(words: list[str], is_own: bool = False, named: str | None = None) -> View:
     """The view for the words of `analyse`. The lines of the file itself are shown where `is_own` is set, also where it
-    was written from another."""
+    was written from another; that other one is the file `named`, if one is."""
     path, options = options_of(words)
     if path is None:
         raise Unreadable("give a FILE, as ./sweet analyse takes it")
     root, is_c = options.get("--root", "main"), path.endswith(".c")
-    answer = call("analyse", *words)
-    view = View(path, words, read_text(path), answer.text, answer.status, notes=other_program())
+    text, answer = text_of(path), call("analyse", *words)
+    view = View(path, words, text, answer.text, answer.status, unproved=unproved())
     try:
         view.source = source_of(view, root, is_c)
         if view.source and is_c and not is_own:
-            move(view)
+            move(view, named)
         if answer.status == 0:
             view.report = report_of(answer.text)
             view.analysis = analysis_of(view.source, view.report, root)
     except Differs as differs:
         view.source, view.differs = None, str(differs)
     if answer.status:
-        refusal = refusal_of(answer.text, answer.status, view.text, is_c)
-        view.refusal, view.place = refusal.words, refusal.place
+        view.refusal = refusal_of(answer.text, answer.status, view.text, is_c)
+        view.place = view.refusal.place
         if view.source and not view.place:
             view.place = waiting_place(answer.text, view.source, root)
     if view.source and "--inputs" in options:
@@ -98,28 +104,14 @@ def look(words: list[str], is_own: bool = False) -> View:
     return view
 
 
-def move(view: View) -> None:
+def move(view: View, named: str | None) -> None:
     """Puts what is shown at the lines of the file that a text of `sweet-c` was written from, where they are known."""
     try:
-        view.origin = origin_of(view.path, view.source)
+        view.origin = origin_of(view.path, view.source, named)
     except Apart as apart:
         view.notes.append(str(apart))
     if view.origin:
         view.source, view.text = moved(view.source, view.origin), view.origin.text
-
-
-def other_program() -> list[str]:
-    """A sentence where the answers are not those of the proved program."""
-    name = os.environ.get("SWEET")
-    return [f"The answers are those of {name}, and not of the proved program ./sweet."] if name else []
-
-
-def read_text(path: str) -> str:
-    try:
-        with open(path, encoding="utf-8", errors="surrogateescape", newline="") as file:
-            return file.read()
-    except OSError as error:
-        raise Unreadable(f"{path}: {error.strerror}") from error
 
 
 def source_of(view: View, root: str, is_c: bool) -> Source | None:
@@ -150,6 +142,6 @@ def analysis_of(source: Source | None, report: Report, root: str) -> Analysis:
 def give(view: View, path: str) -> None:
     """Puts the ranges of an inputs file at their declarations."""
     try:
-        view.given = given_at_lines(read_text(path), view.source)
+        view.given = given_at_lines(text_of(path), view.source)
     except (Unreadable, *SURPRISES):
         view.notes.append("The ranges of the inputs file could not be shown on their lines.")

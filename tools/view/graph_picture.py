@@ -2,7 +2,7 @@
 
 from view.file_view import Analysis
 from view.graph import ENTRY
-from view.markup import element, escape, shortened
+from view.markup import Markup, element, shortened
 from view.model import Node
 from view.report import range_text
 
@@ -10,7 +10,7 @@ ROW, INDENT, LEFT, TOP, LANE, LETTER = 24, 22, 26, 16, 7, 7
 LEAST = 500
 
 
-def picture_of(analysis: Analysis) -> str:
+def picture_of(analysis: Analysis) -> Markup:
     return Picture(analysis).html()
 
 
@@ -52,7 +52,7 @@ class Picture:
     def count(self, node: Node) -> str:
         return "–" if node.is_dead else range_text(node.low, node.high)
 
-    def html(self) -> str:
+    def html(self) -> Markup:
         height = TOP + len(self.model.nodes) * ROW
         tip = element(
             "marker",
@@ -79,14 +79,14 @@ class Picture:
         )
         return element("div", picture, class_="graph")
 
-    def scope(self, scope: int) -> str:
+    def scope(self, scope: int) -> Markup:
         """The box round the nodes of a scope."""
         rows = [self.rows.row[it] for it in self.rows.members(scope)]
         depth = self.model.depth_of(scope)
         left = LEFT + depth * INDENT - 17
         return element(
             "rect",
-            element("title", escape(self.found.loops.scope_words(scope))),
+            element("title", self.found.loops.scope_words(scope)),
             class_=f"scope {self.model.report.scopes[scope].kind}",
             x=left,
             y=TOP + min(rows) * ROW - 11,
@@ -95,7 +95,7 @@ class Picture:
             height=(max(rows) - min(rows)) * ROW + 22,
         )
 
-    def edge(self, source: int, target: int) -> str:
+    def edge(self, source: int, target: int) -> Markup:
         """Down to the next row straight, further down in a lane to the right, and up to the left."""
         is_off = self.model.nodes[source].is_dead or self.model.nodes[target].is_dead
         distance = self.rows.row[target] - self.rows.row[source]
@@ -122,7 +122,7 @@ class Picture:
         turn = f"Q{lane} {top} {lane} {top - 4}V{bottom + 5}Q{lane} {bottom + 1} {lane + 2} {bottom + 1}"
         return f"M{left - 12} {top}H{lane + 4}{turn}"
 
-    def node(self, node: Node) -> str:
+    def node(self, node: Node) -> Markup:
         number, line, count = node.number, node.block.home + 1, self.count(node)
         label = node.block.text + (" is entered" if node.block.number == ENTRY else "")
         sign = "▲ " if number in self.found.alarms.first_item else ""
@@ -137,7 +137,7 @@ class Picture:
             element("rect", class_="dot", x=x - 12, y=y - 8, width=24, height=16, rx=2 if is_entry else 8),
             element("text", str(number), class_="id", x=x, y=y + 4),
             element("text", count, class_="cn", x=text - 12, y=y + 4),
-            element("text", sign + escape(shortened(label, letters)), class_="tx", x=text, y=y + 4),
+            element("text", sign + shortened(label, letters), class_="tx", x=text, y=y + 4),
             element("text", str(line), class_="lx", x=self.width - 8 - 3 * self.deepest, y=y + 4),
             class_=f"node {kind} entry" if is_entry else f"node {kind}",
             tabindex=-1,

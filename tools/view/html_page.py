@@ -1,23 +1,32 @@
 """The view as one page of HTML, with all that it needs inside."""
 
-import json
+import base64
+import hashlib
 import os
 import pathlib
 import shlex
 
 from view.file_view import View
-from view.markup import element, escape
+from view.markup import NOTHING, Content, Markup, data_element, element, joined, raw_element
 from view.model import LEVELS
 from view.panel import Panel
 from view.source_pane import SourcePane
+from view.visible import in_line
 
 HERE = pathlib.Path(__file__).resolve().parent
-# Nothing is fetched.
-POLICY = "default-src 'none'; style-src 'unsafe-inline'; script-src 'unsafe-inline'"
+# Each page begins so: by that a file is known to be one.
+BEGIN = '<!doctype html><html lang="en"><head><meta charset="utf-8"><meta name="generator" content="sweet-view">'
+# Nothing is fetched, and of styles and scripts those alone count whose sums the page tells: no attribute is one.
+POLICY = "default-src 'none'; style-src {}; script-src {}; base-uri 'none'; form-action 'none'"
 
 
 def page(view: View) -> str:
     return Page(view).html()
+
+
+def sum_of(text: str) -> str:
+    """The checksum of a style or a script, as a policy has it."""
+    return f"'sha256-{base64.b64encode(hashlib.sha256(text.encode('utf-8')).digest()).decode('ascii')}'"
 
 
 class Page:
@@ -26,97 +35,105 @@ class Page:
     def __init__(self, view: View) -> None:
         self.view, self.found = view, view.analysis
         self.source = SourcePane(view)
-        self.name = os.path.basename(view.shown_path)
+        self.name = in_line(os.path.basename(view.shown_path))
 
     def html(self) -> str:
         panel = Panel(self.found) if self.found else None
         data = {"nodes": panel.node_data(), "variants": self.source.variants()} if panel else {}
         if panel:
             data["counted"] = self.found.model.is_by_path
-        script = json.dumps(data, separators=(",", ":"), ensure_ascii=True).replace("<", "\\u003c")
+        style, script = self.style(), (HERE / "page.js").read_text(encoding="utf-8")
+        policy = POLICY.format(sum_of(style), sum_of(script))
         head = element(
             "head",
             element("meta", charset="utf-8"),
-            element("meta", http_equiv="Content-Security-Policy", content=POLICY),
+            element("meta", name="generator", content="sweet-view"),
+            element("meta", http_equiv="Content-Security-Policy", content=policy),
             element("meta", name="viewport", content="width=device-width,initial-scale=1"),
-            element("title", f"{escape(self.name)} — sweet"),
-            element("style", (HERE / "page.css").read_text(encoding="utf-8")),
+            element("title", f"{self.name} — sweet"),
+            raw_element("style", style),
         )
         body = element(
             "body",
             element("header", self.heading()),
-            element("main", self.source_section(), panel.html() if panel else ""),
-            element("script", script, type="application/json", id="data"),
-            element("script", (HERE / "page.js").read_text(encoding="utf-8")),
+            element("main", self.source_section(), panel.html() if panel else NOTHING),
+            data_element(data, id="data"),
+            raw_element("script", script),
             class_=None if panel else "plain",
-            style=f"--cw:{self.count_width()}ch",
         )
-        return f"<!doctype html>{element('html', head, body, lang='en')}\n"
+        return f"<!doctype html>{element('html', head, body, lang='en').text}\n"
+
+    def style(self) -> str:
+        """With the width of the counts, and a class for each width of a bar: no element has a style of its own."""
+        bars = "".join(f".w{it} {{ --w: {it / 100}; }}\n" for it in range(101))
+        return f"{(HERE / 'page.css').read_text(encoding='utf-8')}{bars}:root {{ --cw: {self.count_width()}ch; }}\n"
 
     def count_width(self) -> int:
         counts = [len(self.source.facts(line).count_text) for line in range(len(self.view.rows))] if self.found else []
         return max([6, *counts])
 
-    def source_section(self) -> str:
+    def source_section(self) -> Markup:
         cells = [element("span", "in a run", class_="ct"), element("span", "share", class_="sh")]
         cells += [element("span", "line", class_="ln"), element("code")]
-        top = element("div", *cells, class_="row top", aria_hidden="true") if self.found else ""
+        top = element("div", *cells, class_="row top", aria_hidden="true") if self.found else NOTHING
         rows = element("div", top, self.source.html(), class_="rows", role="list")
-        parts = [self.legend() if self.found else "", rows, self.written_text()]
+        parts = [self.legend() if self.found else NOTHING, rows, self.written_text()]
         return element("section", *parts, class_="source", aria_label="source")
 
     # -- the head
 
-    def heading(self) -> str:
-        command = "sweet analyse " + shlex.join(self.view.words)
-        return "".join(
+    def heading(self) -> Markup:
+        command = in_line("sweet analyse " + shlex.join(self.view.words))
+        return joined(
             [
-                element("h1", escape(self.name)),
-                element("p", element("code", escape(command)), class_="cmd"),
+                element("h1", self.name),
+                element("p", element("code", command), class_="cmd"),
+                element("div", element("strong", in_line(self.view.unproved)), class_="warn") if self.view.unproved else NOTHING,
                 self.origin(),
-                self.warning(),
-                self.bare_report() if self.view.status == 0 and not self.found else "",
-                element("div", *self.figures(), class_="stats") if self.found else "",
-                *(element("p", escape(it), class_="note") for it in self.view.notes),
+                *self.warnings(),
+                self.bare_report() if self.view.status == 0 and not self.found else NOTHING,
+                element("div", *self.figures(), class_="stats") if self.found else NOTHING,
+                *(element("p", in_line(it), class_="note") for it in self.view.notes),
             ]
         )
 
-    def origin(self) -> str:
+    def origin(self) -> Markup:
         """That the report is of another text than the one that is shown."""
         origin = self.view.origin
         if origin is None:
-            return ""
-        out = element("code", escape(os.path.basename(origin.written)))
-        lead = element("strong", "What is proved speaks of ", out)
-        name = escape(self.name)
-        words = f", which <code>./sweet-c</code> wrote from {name}. Counts, loops and alarms of each statement "
-        words += f"stand here at the line of {name} that it comes from; the lists have its words in {out}."
-        return element("div", lead, words, class_="from")
+            return NOTHING
+        out = element("code", in_line(os.path.basename(origin.written)))
+        words: list[Content] = [element("strong", "What is proved speaks of ", out), ", which ", element("code", "./sweet-c")]
+        words += [f" wrote from {self.name}. Counts, loops and alarms of each statement stand here at the line of "]
+        words += [f"{self.name} that it comes from; the lists have its words in ", out, "."]
+        return element("div", *words, class_="from")
 
-    def written_text(self) -> str:
+    def written_text(self) -> Markup:
         """The text that the report is of, where another is shown."""
         origin = self.view.origin
         if origin is None:
-            return ""
-        summary = element("summary", "The text of ", element("code", escape(os.path.basename(origin.written))))
-        return element("details", summary, element("pre", escape(origin.written_text)), class_="raw")
+            return NOTHING
+        summary = element("summary", "The text of ", element("code", in_line(os.path.basename(origin.written))))
+        return element("details", summary, element("pre", origin.written_text), class_="raw")
 
-    def warning(self) -> str:
+    def warnings(self) -> list[Markup]:
         """Why no line is marked, and why there is no report."""
-        found = ""
+        found = []
         if self.view.differs:
-            why = " The rules of this viewer and of <code>sweet</code> do not agree on this file: "
-            why += f"{escape(self.view.differs)}."
+            lead = element("strong", "No line is marked.")
+            why = f" do not agree on this file: {in_line(self.view.differs)}."
             is_told = " The report itself is not in doubt." if self.view.status == 0 else ""
-            found += element("div", element("strong", "No line is marked."), why, is_told, class_="warn")
+            words = " The rules of this viewer and of ", element("code", "sweet"), why, is_told
+            found.append(element("div", lead, *words, class_="warn"))
         if self.view.refusal:
             line = self.view.place[0] + 1 if self.view.place else None
-            link = " " + element("a", f"Line {line}", href=f"#L{line}") + "." if line else ""
-            words = " " + escape(self.view.refusal)
-            found += element("div", element("strong", "There is no report."), words, link, class_="warn")
+            link: list[Content] = [" ", element("a", f"Line {line}", href=f"#L{line}"), "."] if line else []
+            refusal = self.view.refusal
+            words = " The analysis answers ", element("code", in_line(refusal.line)), f" (status {refusal.status})."
+            found.append(element("div", element("strong", "There is no report."), *words, *link, class_="warn"))
         return found
 
-    def bare_report(self) -> str:
+    def bare_report(self) -> Markup:
         """The bounds and the report as it was printed, where no line is marked."""
         report, figures = self.view.report, []
         if report:
@@ -124,14 +141,15 @@ class Page:
             figures.append(figure(grouped(report.count_bound), "by greatest counts alone (count bound)"))
             figures.append(figure(str(len(report.alarms) or "none"), "alarms", "bad" if report.alarms else "good"))
         summary = element("summary", "The report as it was printed")
-        raw = element("details", summary, element("pre", escape(self.view.answer)), class_="raw", open=not report)
-        return element("div", *figures, class_="stats") + raw
+        raw = element("details", summary, element("pre", self.view.answer), class_="raw", open=not report)
+        return joined([element("div", *figures, class_="stats"), raw])
 
-    def figures(self) -> list[str]:
+    def figures(self) -> list[Markup]:
         report, alarms = self.found.report, self.found.alarms.all
         stopped = element("small", " (the search was stopped; it holds all the same)")
         is_stopped = report.path_word == "stopped"
-        found = [figure(grouped(report.path_bound), "no run costs more than this" + stopped * is_stopped, "big")]
+        told = [stopped] if is_stopped else []
+        found = [figure(grouped(report.path_bound), "no run costs more than this", "big", *told)]
         if report.count_bound != report.path_bound:
             found.append(figure(grouped(report.count_bound), "by greatest counts alone (count bound)"))
         words = ("alarm" if len(alarms) == 1 else "alarms") + (": a run may fault" if alarms else ": no run faults")
@@ -142,16 +160,18 @@ class Page:
             found.append(figure(str(never), f"line{'' if never == 1 else 's'} never reached"))
         return found
 
-    def legend(self) -> str:
+    def legend(self) -> Markup:
         """What heat and the margin mean."""
         scale = element("span", *(element("i", class_=f"h{it}") for it in range(1, LEVELS + 1)), class_="scale")
-        parts = [
-            scale + " " + self.heat(),
-            element("b", "5..17") + " at least 5 and at most 17 times in a run",
-            "below a line: its parts, where they differ",
-            element("span", "grey", class_="dead") + " never reached",
-        ]
-        return element("p", element("span", "·", class_="sep").join(f" {it} " for it in parts), class_="legend")
+        dot = " ", element("span", "·", class_="sep"), " "
+        return element(
+            "p",
+            *(scale, " ", self.heat(), *dot),
+            *(element("b", "5..17"), " at least 5 and at most 17 times in a run", *dot),
+            *("below a line: its parts, where they differ", *dot),
+            *(element("span", "grey", class_="dead"), " never reached"),
+            class_="legend",
+        )
 
     def heat(self) -> str:
         """What the shares are of."""
@@ -163,8 +183,8 @@ class Page:
         return f"share of the count bound, {grouped(report.count_bound)}"
 
 
-def figure(number: str, words: str, kind: str = "") -> str:
-    return element("div", element("b", number), element("span", words), class_=f"stat {kind}".strip())
+def figure(number: str, words: str, kind: str = "", *more: Markup) -> Markup:
+    return element("div", element("b", number), element("span", words, *more), class_=f"stat {kind}".strip())
 
 
 def grouped(number: int) -> str:

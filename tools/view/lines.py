@@ -36,9 +36,15 @@ class Lines:
 
     def __init__(self, model: Model, alarms: Alarms) -> None:
         self.model, self.alarms = model, alarms
+        self.found: dict[tuple[int, tuple[int, ...] | None], LineFacts] = {}
 
     def facts(self, line: int, path: tuple[int, ...] | None = None) -> LineFacts:
         """Of a line, counted from 0; with a path of that call alone."""
+        if (line, path) not in self.found:
+            self.found[line, path] = self.made(line, path)
+        return self.found[line, path]
+
+    def made(self, line: int, path: tuple[int, ...] | None) -> LineFacts:
         parts, share, heat = [], 0.0, 0.0
         best: Range | None = None
         for block in self.model.at_line.get(line, []):
@@ -49,7 +55,7 @@ class Lines:
             heat += own
             share += own if block.home == line else 0
             low, high = self.count(block, nodes, line)
-            parts.append((self.model.column_of(block, line), range_text(low, high) if high else "–"))
+            parts.append((block.columns[line], range_text(low, high) if high else "–"))
             if nodes and (best is None or (high, low) > best[::-1]):
                 best = low, high
         if not parts:

@@ -16,7 +16,8 @@ LEVELS = 8
 class Block:
     """A block of a function, or its entry: its tokens, their lines from 0, and the first of these, its home.
 
-    `first_item` has for each line the number of the first item that has a token there.
+    `columns` has for each line the column of the first token there, and `first_item` the number of the first item
+    that has a token there.
     """
 
     function: Function
@@ -25,6 +26,7 @@ class Block:
     is_weak: bool
     lines: list[int]
     text: str
+    columns: dict[int, int]
     first_item: dict[int, int]
     nodes: list["Node"] = dataclasses.field(default_factory=list)
 
@@ -86,7 +88,7 @@ class Model:
             for line in block.lines if block.is_shown else ():
                 self.at_line.setdefault(line, []).append(block)
         for line, blocks in self.at_line.items():
-            blocks.sort(key=lambda it: self.column_of(it, line))
+            blocks.sort(key=lambda it: it.columns[line])
         heats = [sum(node.share for block in blocks for node in block.nodes) for blocks in self.at_line.values()]
         self.top_line = max(heats, default=0)
         self.top_node = max((node.share for node in self.nodes), default=0)
@@ -96,9 +98,15 @@ class Model:
         for item in reversed(function.blocks[number] if number != ENTRY else []):
             for token in function.items[item].strong:
                 first_item[self.tokens[token].line] = item
-        lines = sorted({self.tokens[it].line for it in tokens})
-        text = self.text_of(function, number)
-        return Block(function, number, tokens, function.is_weak(number), lines, text, first_item)
+        text, columns = self.text_of(function, number), self.columns_of(tokens)
+        return Block(function, number, tokens, function.is_weak(number), sorted(columns), text, columns, first_item)
+
+    def columns_of(self, tokens: list[int]) -> dict[int, int]:
+        """The lines of tokens, each with the first column of one there."""
+        found: dict[int, int] = {}
+        for token in (self.tokens[it] for it in tokens):
+            found[token.line] = min(token.column, found.get(token.line, token.column))
+        return found
 
     def node_of(self, number: int, place: Place) -> Node:
         line, block = self.report.nodes[number], self.blocks[self.graph.called[place.path], place.block]
@@ -139,9 +147,6 @@ class Model:
             # A constant alone, as of `while (1)`, would tell little.
             return f"{text}, the {item.role}"
         return text + " …" if item.kind == "store" and text.endswith("=") else text
-
-    def column_of(self, block: Block, line: int) -> int:
-        return min(self.tokens[it].column for it in block.tokens if self.tokens[it].line == line)
 
     # -- calls
 

@@ -5,14 +5,16 @@ where each statement has its comment: else the lines of the text itself are show
 """
 
 import dataclasses
-import pathlib
+import os
 import re
 
 from in_profile.head import Head, head_of
 from view.c_tokens import Token, shown_tokens
+from view.given_file import Unreadable, bytes_of
 from view.source import Source
 from view.statement_marks import StatementMarks
 
+TOLD = "its own lines are shown, and the comment before a statement tells its line there"
 # After such a line others are counted as the line says.
 RENUMBERED = re.compile(r"^[ \t]*#[ \t]*(?:line\b|[0-9])", re.M)
 
@@ -32,12 +34,13 @@ class Apart(Exception):
     """Lines of IN.c are not shown, for the reason told."""
 
 
-def origin_of(path: str, source: Source) -> Origin | None:
-    """The origin of a text, where its lines can be shown. None where the text has none; `Apart` where they cannot."""
+def origin_of(path: str, source: Source, named: str | None = None) -> Origin | None:
+    """The origin of a text, where its lines can be shown: the file that is `named`, or else the one beside the text of
+    which its head has the name. None where the text has none; `Apart` where they cannot be shown."""
     head = head_of(source.text.encode("utf-8", "surrogateescape"))
     if head is None:
         return None
-    name = pathlib.Path(head.name).name
+    name = name_of(head)
     if not head.is_whole:
         is_bare = not head.file
         why = "is by a ./sweet-c that wrote no checksums" if is_bare else "was changed after ./sweet-c wrote it"
@@ -45,30 +48,37 @@ def origin_of(path: str, source: Source) -> Origin | None:
     marks = StatementMarks(source)
     if marks.fault:
         raise Apart(f"The comments of {path} do not tell the lines of {name}, which it came from: {marks.fault}.")
-    found, text = text_of(head, path, name)
+    found = named or os.path.join(os.path.dirname(path), name)
+    text = named_text(head, found) if named else text_beside(head, path, name)
     lacking = marks.lacking(text.split("\n"))
     if lacking or RENUMBERED.search(text):
         raise Apart(f"The comments of {path} do not fit {found}: {lacking or 'it counts its lines anew'}.")
     return Origin(found, text, shown_tokens(text), path, source.text)
 
 
-def text_of(head: Head, path: str, name: str) -> tuple[str, str]:
-    """The path and the text of the file that a head names: from here, from the folder of the text, or beside it."""
-    folder = pathlib.Path(path).parent
-    places = [pathlib.Path(head.name), folder / head.name, folder / name]
-    told = "its own lines are shown, and the comment before a statement tells its line there"
-    has_other = False
-    for it in dict.fromkeys(places):
-        try:
-            given = it.read_bytes()
-        except OSError:
-            continue
-        if head.is_of(given):
-            return str(it), given.decode("utf-8", "surrogateescape")
-        has_other = True
-    if has_other:
-        raise Apart(f"{path} came from {head.name}, which has changed since: {told}.")
-    raise Apart(f"{path} came from {head.name}, which is not found: {told}.")
+def name_of(head: Head) -> str:
+    """The last part of the name that a head has. The rest of it is not looked at: a text that comes from elsewhere
+    could name any file."""
+    return os.fsdecode(head.name.encode("latin-1").rpartition(b"/")[2])
+
+
+def text_beside(head: Head, path: str, name: str) -> str:
+    """The text of the file that a head names, if it is beside. Why not is not told, since that would tell of files."""
+    try:
+        given = bytes_of(os.path.join(os.path.dirname(path), name), links=False)
+    except Unreadable:
+        given = None
+    if given is None or not head.is_of(given):
+        raise Apart(f"{path} came from {name}, which does not stand beside it as it was then (--from names it): {TOLD}.")
+    return given.decode("utf-8", "surrogateescape")
+
+
+def named_text(head: Head, named: str) -> str:
+    """The text of the file that the words name."""
+    given = bytes_of(named)
+    if not head.is_of(given):
+        raise Apart(f"{named} is not the file that this text came from, as it was then: {TOLD}.")
+    return given.decode("utf-8", "surrogateescape")
 
 
 def moved(source: Source, origin: Origin) -> Source:

@@ -6,8 +6,14 @@ const data = JSON.parse(document.getElementById("data").textContent);
 
 const all = (query, within = document) => [...within.querySelectorAll(query)];
 const nodesOf = element => (element.dataset.n ? element.dataset.n.split(" ").map(Number) : []);
-const escaped = text =>
-  String(text).replace(/[&<>"]/g, it => ({ "&": "&amp;", "<": "&lt;", ">": "&gt;", '"': "&quot;" })[it]);
+
+// An element with texts and elements within it. No text is ever read as markup.
+function made(name, attributes, ...content) {
+  const element = document.createElement(name);
+  for (const [key, value] of Object.entries(attributes)) element.setAttribute(key, value);
+  element.append(...content);
+  return element;
+}
 
 // -- the box that tells of what is pointed at
 
@@ -25,20 +31,22 @@ function tableOf(nodes) {
   const hasCaller = nodes.some(it => data.nodes[it][7]);
   const hasEntry = nodes.some(it => data.nodes[it][3]);
   const heads = ["part", hasCaller && "called", "in a run", hasEntry && "per loop entry", data.counted && "counted"];
-  const head = [...heads, "cost", "share", "node"].filter(Boolean).map(it => `<th>${it}</th>`);
+  const head = [...heads, "cost", "share", "node"].filter(Boolean).map(it => made("th", {}, it));
   const rows = nodes.slice(0, MOST).map(it => {
     const [text, , count, entry, cost, share, name, caller, counted] = data.nodes[it];
     const cells = [
-      `<td title="${escaped(text)}"><code>${escaped(text)}</code></td>`,
-      hasCaller && `<td>${escaped(caller)}</td>`,
-      `<td><b>${count}</b></td>`,
-      hasEntry && `<td>${entry}</td>`,
-      data.counted && `<td>${counted}</td>`,
-      `<td>${cost}</td><td>${share}</td><td class="nm" title='${escaped(name)}'>${it}</td>`,
+      made("td", { title: text }, made("code", {}, text)),
+      hasCaller && made("td", {}, caller),
+      made("td", {}, made("b", {}, count)),
+      hasEntry && made("td", {}, entry),
+      data.counted && made("td", {}, counted),
+      made("td", {}, cost),
+      made("td", {}, share),
+      made("td", { class: "nm", title: name }, it),
     ];
-    return `<tr>${cells.filter(Boolean).join("")}</tr>`;
+    return made("tr", {}, ...cells.filter(Boolean));
   });
-  return `<table><tr>${head.join("")}</tr>${rows.join("")}</table>`;
+  return made("table", {}, made("tr", {}, ...head), ...rows);
 }
 
 function tell(element, nodes, row) {
@@ -49,13 +57,14 @@ function tell(element, nodes, row) {
     nodes = row ? nodesOf(row) : [];
   }
   if (!row && !nodes.length) {
-    box.innerHTML = "";
+    box.replaceChildren();
   } else if (!nodes.length) {
-    box.innerHTML = `<h3>Line ${row.id.slice(1)}</h3><p class="hint">No way through the program leads here.</p>`;
+    const hint = made("p", { class: "hint" }, "No way through the program leads here.");
+    box.replaceChildren(made("h2", {}, "Line " + row.id.slice(1)), hint);
   } else {
     const left = nodes.length - MOST;
-    const more = left > 0 ? `<p class="hint">and ${left} more</p>` : "";
-    box.innerHTML = `<h3>${titleOf(nodes, row, isFirst)}</h3>${tableOf(nodes)}${more}`;
+    const more = left > 0 ? [made("p", { class: "hint" }, `and ${left} more`)] : [];
+    box.replaceChildren(made("h2", {}, titleOf(nodes, row, isFirst)), tableOf(nodes), ...more);
   }
 }
 

@@ -4,7 +4,7 @@ from view.exclusions import Exclusion, lines_text
 from view.file_view import Analysis
 from view.graph_picture import picture_of
 from view.loops import count_words
-from view.markup import element, escape, item, shortened
+from view.markup import NOTHING, Content, Markup, element, item, joined, shortened
 from view.model import Node
 from view.report import percent_text, range_text
 
@@ -18,23 +18,23 @@ class Panel:
     def __init__(self, analysis: Analysis) -> None:
         self.found, self.model, self.report = analysis, analysis.model, analysis.report
 
-    def html(self) -> str:
+    def html(self) -> Markup:
         excluded = self.exclusions()
         is_less = self.report.path_bound < self.report.count_bound
         note = "One reason why the path bound is below the count bound." if is_less else ""
         return element(
             "aside",
             element("section", id="sel", class_="idle", aria_live="polite"),
-            section("alarms", "Alarms", self.alarms()) if self.found.alarms.all else "",
+            section("alarms", "Alarms", self.alarms()) if self.found.alarms.all else NOTHING,
             section("hot", "Where the bound comes from", self.parts()),
             section("loops", "Loops and calls", element("ul", self.scope(0), class_="tree")),
-            section("never", "Never together", excluded, note) if excluded else "",
+            section("never", "Never together", excluded, note) if self.found.exclusions else NOTHING,
             section("graph", "Graph", picture_of(self.found)),
             self.keys(),
             aria_label="what the report says",
         )
 
-    def keys(self) -> str:
+    def keys(self) -> Markup:
         keys = [
             ("↑ ↓", "move"),
             ("Enter", "keeps and follows"),
@@ -43,8 +43,11 @@ class Panel:
             ("g", "source or panel"),
             ("Esc", "lets go"),
         ]
-        told = [" ".join(element("kbd", it) for it in words.split()) + " " + what for words, what in keys]
-        return element("p", "Point at a line, a part or a node. ", ", ".join(told), ".", class_="hint keys")
+        told: list[Content] = ["Point at a line, a part or a node."]
+        for words, what in keys:
+            told += [piece for it in words.split() for piece in (" ", element("kbd", it))]
+            told.append(f" {what}{',' if what != keys[-1][1] else '.'}")
+        return element("p", *told, class_="hint keys")
 
     def caller(self, node: Node) -> str:
         """From where a node's function is called, where it is called more than once."""
@@ -52,15 +55,15 @@ class Panel:
 
     # -- the parts of the bound
 
-    def parts(self) -> str:
+    def parts(self) -> Markup:
         order = self.found.rows.row
         nodes = sorted((it for it in self.model.nodes if it.share), key=lambda it: (-it.share, order[it.number]))
         cells = [cell("pc", "share"), cell("n", "in a run"), cell("what", "part"), cell("at", "line")]
         rows = [element("li", *cells, class_="head")] + [self.part(it) for it in nodes]
         shown = element("ol", *rows[: FIRST + 1], class_="list")
-        return shown + more(len(nodes) - FIRST, "more", element("ol", *rows[FIRST + 1 :], class_="list"))
+        return joined([shown, more(len(nodes) - FIRST, "more", element("ol", *rows[FIRST + 1 :], class_="list"))])
 
-    def part(self, node: Node) -> str:
+    def part(self, node: Node) -> Markup:
         times = "once" if node.counted == 1 else f"{count_text(node.counted)} times"
         counted = "" if node.counted == node.high else f"counted {times}"
         told = ", ".join(it for it in (self.caller(node), counted) if it)
@@ -68,16 +71,16 @@ class Panel:
             "li",
             [node.number],
             node.block.home,
-            element("span", class_="bar", style=f"--w:{node.share / self.model.top_node:.3f}"),
+            bar(node.share / self.model.top_node),
             cell("pc", percent_text(node.share)),
             cell("n", range_text(node.low, node.high)),
-            cell("what", element("code", escape(shortened(node.block.text, 60))) + element("small", escape(told))),
+            cell("what", element("code", shortened(node.block.text, 60)), element("small", told)),
             cell("at", str(node.block.home + 1)),
         )
 
     # -- loops and calls
 
-    def scope(self, scope: int) -> str:
+    def scope(self, scope: int) -> Markup:
         """A scope with those within it."""
         header, nodes = self.model.header_of(scope), self.found.rows.members(scope)
         share = sum(self.model.nodes[it].share for it in nodes)
@@ -87,9 +90,9 @@ class Panel:
             "div",
             nodes,
             line,
-            element("span", class_="bar", style=f"--w:{share:.3f}"),
+            bar(share),
             cell("pc", percent_text(share)),
-            cell("what", element("code", escape(name)) + " " + element("small", escape(words))),
+            cell("what", element("code", name), " ", element("small", words)),
             cell("at", str(line + 1)),
             kind=f"{kind} dead" if header.is_dead else kind,
         )
@@ -105,22 +108,22 @@ class Panel:
         words = f"{calls}, from line {self.model.call_words(header.place.path)}" if scope else "the run"
         return f"{header.block.function.name}()", header.block.home, words
 
-    def scopes_within(self, scope: int) -> str:
+    def scopes_within(self, scope: int) -> Markup:
         """The scopes within one in the order of rows; those that are never entered are folded where it is."""
         rows = self.found.rows
         within = sorted(rows.within[scope], key=lambda it: rows.row[self.report.scopes[it].header])
         is_dead = self.model.header_of(scope).is_dead
         shown = [it for it in within if is_dead or not self.model.header_of(it).is_dead]
         folded = [it for it in within if it not in shown]
-        told = "".join(self.scope(it) for it in shown)
+        told = [self.scope(it) for it in shown]
         if folded:
             inner = element("ul", *(self.scope(it) for it in folded))
-            told += element("li", more(len(folded), "never entered", inner))
-        return element("ul", told) if told else ""
+            told.append(element("li", more(len(folded), "never entered", inner)))
+        return element("ul", *told) if told else NOTHING
 
     # -- alarms
 
-    def alarms(self) -> str:
+    def alarms(self) -> Markup:
         rows = []
         for alarm in self.found.alarms.all:
             every = f"in each of its {len(alarm.nodes)} calls" if len(alarm.nodes) > 1 else ""
@@ -132,7 +135,7 @@ class Panel:
                     [it.number for it in alarm.nodes],
                     alarm.lines[0],
                     cell("kind", f"▲ {alarm.cause}"),
-                    cell("what", escape(alarm.words + several) + element("small", escape(calls))),
+                    cell("what", alarm.words + several, element("small", calls)),
                     cell("at", ", ".join(str(it + 1) for it in alarm.lines)),
                 )
             )
@@ -140,23 +143,23 @@ class Panel:
 
     # -- what excludes one another
 
-    def exclusions(self) -> str:
+    def exclusions(self) -> Markup:
         found, last = [], None
         for it in self.found.exclusions:
             if it.scope != last:
                 words = self.found.loops.scope_words(it.scope)
-                found.append(element("p", f"In one {escape(words)}, at most one of:"))
+                found.append(element("p", f"In one {words}, at most one of:"))
                 last = it.scope
             found.append(self.exclusion(it))
-        return "".join(found)
+        return joined(found)
 
-    def exclusion(self, exclusion: Exclusion) -> str:
+    def exclusion(self, exclusion: Exclusion) -> Markup:
         rows = []
         for group in exclusion.groups:
             nodes = sorted((self.model.nodes[it] for it in group), key=lambda it: (it.block.home, it.number))
             texts = list(dict.fromkeys(it.block.text for it in nodes))
             lines = cell("at", lines_text(self.model, group))
-            code = element("code", escape(shortened(" / ".join(texts), 64)))
+            code = element("code", shortened(" / ".join(texts), 64))
             rows.append(item("li", group, nodes[0].block.home, lines, code))
         return element("ul", element("li", element("ul", *rows), class_="group"), class_="ex")
 
@@ -187,18 +190,23 @@ class Panel:
         return range_text(*self.report.loops[node.scope]) if is_header and node.scope in self.report.loops else ""
 
 
-def section(name: str, title: str, body: str, note: str = "") -> str:
-    told = element("p", escape(note), class_="note") if note else ""
+def section(name: str, title: str, body: Markup, note: str = "") -> Markup:
+    told = element("p", note, class_="note") if note else NOTHING
     return element("details", element("summary", element("h2", title)), told, body, class_="sec", id=name, open=True)
 
 
-def more(count: int, words: str, body: str) -> str:
+def more(count: int, words: str, body: Markup) -> Markup:
     """A part that is folded, with how many rows it has."""
-    return element("details", element("summary", f"{count} {words}"), body, class_="more") if count > 0 else ""
+    return element("details", element("summary", f"{count} {words}"), body, class_="more") if count > 0 else NOTHING
 
 
-def cell(kind: str, content: str) -> str:
-    return element("span", content, class_=kind)
+def cell(kind: str, *content: Content) -> Markup:
+    return element("span", *content, class_=kind)
+
+
+def bar(share: float) -> Markup:
+    """Behind a row, as wide as its share, in hundredths: the page's style has a class for each."""
+    return element("span", class_=f"bar w{round(100 * share)}")
 
 
 def count_text(count: float) -> str:

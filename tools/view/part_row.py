@@ -1,13 +1,15 @@
 """The row below a line: what its parts count, each under its first column."""
 
+from view.visible import visible
+
 # Beyond so many characters a line has no such row.
 LONGEST = 140
 TAB = 8
 
 
 def column_in(row: str, column: int) -> int:
-    """Where a character stands once tabs are spaces."""
-    return len(row[:column].expandtabs(TAB))
+    """Where a character stands as the row is shown, once tabs are spaces."""
+    return len(visible(row[:column]).expandtabs(TAB))
 
 
 def labels_row(row: str, parts: list[tuple[int, str]]) -> str:

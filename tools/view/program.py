@@ -15,6 +15,12 @@ def program_path() -> str:
     return os.environ.get("SWEET") or str(TOP / "sweet")
 
 
+def unproved() -> str:
+    """A sentence where the answers are not those of the proved program."""
+    name = os.environ.get("SWEET")
+    return f"The answers are those of {name}, and not of the proved program ./sweet." if name else ""
+
+
 @dataclasses.dataclass(frozen=True, slots=True)
 class Answer:
     """What a call wrote, and its status."""

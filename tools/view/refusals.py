@@ -24,28 +24,33 @@ WAITS = "The steps are used up; runs wait here. More --turns may help, or anothe
 
 @dataclasses.dataclass(frozen=True, slots=True)
 class Refusal:
-    """The answer in words, and its place: line and column from 0, and what is wrong there."""
+    """The line of the answer and its status, and its place: line and column from 0, and what is wrong there."""
 
-    words: str
+    line: str
+    status: int
     place: tuple[int, int, str] | None = None
+
+    @property
+    def words(self) -> str:
+        return f"The analysis answers `{self.line}` (status {self.status})."
 
 
 def refusal_of(answer: str, status: int, text: str, is_c: bool) -> Refusal:
     """Of an answer without a report. Columns of an answer count bytes, those of a place characters."""
     line = answer.strip()
-    said = f"The analysis answers `{line or 'nothing'}` (status {status})."
+    told_line = line or "nothing"
     kind, *words = line.split(" ") if line else [""]
     told = PLACED if is_c else PLACED_OF_ALF
     if is_c and kind == "fault" and len(words) > 2:
         place = named_place(words[0], [it.strip('"') for it in words[2:]], text)
         if place:
-            return Refusal(said, place)
+            return Refusal(told_line, status, place)
     if kind != "fault" or len(words) < 4 or words[0] not in told:
-        return Refusal(said)
+        return Refusal(told_line, status)
     row, column = int(words[2]) - 1, int(words[3]) - 1
     rows = text.split("\n")
     before = rows[row].encode("utf-8", "surrogateescape")[:column] if row < len(rows) else b""
-    return Refusal(said, (row, len(before.decode("utf-8", "replace")), told[words[0]]))
+    return Refusal(told_line, status, (row, len(before.decode("utf-8", "replace")), told[words[0]]))
 
 
 def waiting_place(answer: str, source: Source, root: str) -> tuple[int, int, str] | None:

@@ -1,21 +1,19 @@
 """The source on the page: counts, shares and heat in the margin, marks in the code, and what is told at a line."""
 
 import dataclasses
-import re
 
 from view.alarms import Alarm
 from view.c_cursor import TYPE_WORDS
 from view.file_view import View
 from view.items import Function
 from view.lines import NOTHING, LineFacts
-from view.markup import element, escape, numbers
+from view.markup import Content, Markup, element, joined, numbers
+from view.markup import NOTHING as NO_MARKUP
 from view.model import Block
 from view.part_row import column_in, labels_row
 from view.report import percent_text
 
 KEYWORDS = TYPE_WORDS | frozenset("if else for while do switch case default break continue return".split())
-# Badges begin behind the code, or below it where they would end past so many characters.
-WIDTH = 80
 
 
 @dataclasses.dataclass(slots=True)
@@ -25,7 +23,7 @@ class Run:
     before: str
     key: tuple[tuple[str, ...], bool] | None
     first: int
-    inner: str
+    inner: list[Content]
 
 
 class SourcePane:
@@ -46,8 +44,8 @@ class SourcePane:
             for token in block.tokens if block.is_shown else ():
                 self.blocks_at.setdefault(token, []).append(block)
 
-    def html(self) -> str:
-        return "".join(self.row(line) for line in range(len(self.rows)))
+    def html(self) -> Markup:
+        return joined(self.row(line) for line in range(len(self.rows)))
 
     def facts(self, line: int, path: tuple[int, ...] | None = None) -> LineFacts:
         return self.found.lines.facts(line, path) if self.found else NOTHING
@@ -55,16 +53,16 @@ class SourcePane:
     def parts(self, line: int, facts: LineFacts) -> str:
         return labels_row(self.rows[line], facts.parts) if facts.state == "live" else ""
 
-    def row(self, line: int) -> str:
+    def row(self, line: int) -> Markup:
         facts, share = self.facts(line), percent_text(self.facts(line).share)
         blocks = self.found.model.at_line.get(line, []) if self.found else []
         nodes = sorted({node.number for block in blocks for node in block.nodes})
         place = " place" if self.view.place and self.view.place[0] == line else ""
         code = element(
             "code",
-            self.code(line),
+            element("span", self.code(line), class_="line"),
             self.badges(line),
-            element("span", escape(self.parts(line, facts)), class_="parts") if self.found else "",
+            element("span", self.parts(line, facts), class_="parts") if self.found else NO_MARKUP,
             *(self.alarm(line, it) for it in (self.found.alarms.at_line.get(line, []) if self.found else ())),
             self.refusal(line),
         )
@@ -94,34 +92,37 @@ class SourcePane:
 
     # -- the code
 
-    def code(self, line: int) -> str:
+    def code(self, line: int) -> Markup:
         """A line, its tokens marked by what executes them."""
-        at, end, runs = self.starts[line], self.starts[line] + len(self.rows[line].rstrip("\r")), []
+        at, runs = self.starts[line], []
+        end = at + len(self.rows[line].removesuffix("\r"))
         for number in self.tokens_on.get(line, []):
             token = self.tokens[number]
-            between, key = self.between(at, token.start), self.key_of(number)
-            word = escape(token.text)
-            word = element("b", word) if token.text in KEYWORDS else word
-            if not runs or key != runs[-1].key or "<i>" in between:
-                runs.append(Run(between, key, number, word))
+            before, key = self.view.text[at : token.start], self.key_of(number)
+            word = element("b", token.text) if token.text in KEYWORDS else token.text
+            if not runs or key != runs[-1].key or self.is_comment(before):
+                runs.append(Run(before, key, number, [word]))
             else:
-                runs[-1].inner += between + word
+                runs[-1].inner += [before, word]
             at = token.end
-        return "".join(it.before + self.marked(line, it) for it in runs) + self.between(at, end)
+        told = [piece for it in runs for piece in (self.between(it.before), self.marked(line, it))]
+        return joined([*told, self.between(self.view.text[at:end])])
 
-    def between(self, start: int, end: int) -> str:
+    def is_comment(self, between: str) -> bool:
+        return bool(self.view.source and between.strip())
+
+    def between(self, text: str) -> Content:
         """What is between two tokens: space and comments."""
-        text = self.view.text[start:end]
-        return element("i", escape(text)) if self.view.source and text.strip() else escape(text)
+        return element("i", text) if self.is_comment(text) else text
 
     def key_of(self, token: int) -> tuple[tuple[str, ...], bool] | None:
         """What tells the mark of a token from others; None where nothing executes it."""
         blocks = self.blocks_at.get(token)
         return (tuple(it.key for it in blocks), token in self.found.alarms.tokens) if blocks else None
 
-    def marked(self, line: int, run: Run) -> str:
+    def marked(self, line: int, run: Run) -> Markup:
         if run.key is None:
-            return run.inner
+            return joined(run.inner)
         nodes = [node for block in self.blocks_at[run.first] for node in block.nodes]
         is_split = len(self.found.model.at_line.get(line, [])) > 1
         kind = "t"
@@ -130,74 +131,66 @@ class SourcePane:
         elif is_split and any(it.share for it in nodes):
             kind += f" h{self.found.model.level(sum(it.share for it in nodes))}"
         kind += " suspect" if run.key[1] else ""
-        return element("span", run.inner, class_=kind, data_n=numbers([it.number for it in nodes]))
+        return element("span", *run.inner, class_=kind, data_n=numbers([it.number for it in nodes]))
 
     # -- what is told at a line
 
-    def badges(self, line: int) -> str:
-        all_badges = [it for it in self.loop_badges(line) + self.call_badges(line) + self.given_badges(line) if it]
-        if not all_badges:
-            return ""
-        row = self.rows[line].expandtabs()
-        tokens = self.tokens_on.get(line)
-        ends = column_in(self.rows[line], self.tokens[tokens[-1]].end - self.starts[line]) if tokens else 0
-        # They may cover a comment, and no code.
-        is_below = ends + sum(badge_width(it) for it in all_badges) > WIDTH
-        indent = " " * (len(row) - len(row.lstrip())) if is_below else ""
-        return element("span", indent, *all_badges, class_="badges under" if is_below else "badges")
+    def badges(self, line: int) -> Markup:
+        """They stand behind the code, or below it where the line has no room for them."""
+        found = self.loop_badges(line) + self.call_badges(line) + self.given_badges(line)
+        return element("span", *found, class_="badges") if found else NO_MARKUP
 
-    def given_badges(self, line: int) -> list[str]:
+    def given_badges(self, line: int) -> list[Markup]:
         given = {"class_": "badge given", "title": "by the file of inputs"}
-        return [element("span", escape(it), **given) for it in self.view.given.get(line, [])]
+        return [element("span", it, **given) for it in self.view.given.get(line, [])]
 
-    def loop_badges(self, line: int) -> list[str]:
+    def loop_badges(self, line: int) -> list[Markup]:
         found = []
         for loop in self.found.loops.at_line.get(line, []) if self.found else ():
             both = ", one loop with the other here" if loop.shares_header else ""
             title = f"{loop.statement.word} loop{both}: visits of its head each time it is entered, and in a whole run"
-            words = escape(self.found.loops.words(loop, with_run=False))
+            words = self.found.loops.words(loop, with_run=False)
             found.append(element("span", element("u", "↻"), " ", words, class_="badge loop", title=title))
         return found
 
-    def call_badges(self, line: int) -> list[str]:
+    def call_badges(self, line: int) -> list[Markup]:
         if not self.found:
             return []
         model = self.found.model
-        return [self.chooser(it) for it in model.source.functions if model.tokens[it.named].line == line]
+        here = [it for it in enumerate(model.source.functions) if model.tokens[it[1].named].line == line]
+        return [it for it in (self.chooser(*it) for it in here) if it]
 
-    def chooser(self, function: Function) -> str:
+    def chooser(self, number: int, function: Function) -> Markup | None:
         """Of a function that is called twice the calls, to see one of them alone."""
         model = self.found.model
         paths = model.paths.get(function.name, [])
         if not paths:
             return element("span", "not called", class_="badge off")
         if len(paths) == 1:
-            return ""
+            return None
         options = [element("option", f"{len(paths)} calls, added up", value="")]
-        for number, path in enumerate(paths):
-            options.append(element("option", f"call from line {escape(model.call_words(path))}", value=number))
-        return element(
-            "select", *options, class_="badge", data_f=function.name, aria_label=f"counts of {function.name}"
-        )
+        for at, path in enumerate(paths):
+            options.append(element("option", f"call from line {model.call_words(path)}", value=at))
+        return element("select", *options, class_="badge", data_f=number, aria_label=f"counts of {function.name}")
 
-    def alarm(self, line: int, alarm: Alarm) -> str:
+    def alarm(self, line: int, alarm: Alarm) -> Markup:
         tokens = [it for it in (self.found.model.tokens[number] for number in alarm.tokens) if it.line == line]
         column = column_in(self.rows[line], tokens[0].column) if tokens else 0
         others = [str(it + 1) for it in alarm.lines if it != line]
         where = f" here or at line{'s' if len(others) > 1 else ''} {', '.join(others)}" if others else ""
         calls = self.found.model.instance_words(alarm.nodes)
         words = f" {alarm.words}{where}{', ' + calls if calls else ''}"
-        sign = element("em", "▲ " + escape(alarm.cause))
+        sign = element("em", f"▲ {alarm.cause}")
         nodes = numbers([it.number for it in alarm.nodes])
-        return element("span", " " * min(column, 60), sign, escape(words), class_="alarm", data_n=nodes)
+        return element("span", " " * min(column, 60), sign, words, class_="alarm", data_n=nodes)
 
-    def refusal(self, line: int) -> str:
+    def refusal(self, line: int) -> Markup:
         """What is wrong at the line, where there is no report."""
         if not self.view.place or self.view.place[0] != line:
-            return ""
+            return NO_MARKUP
         _, column, words = self.view.place
         indent = " " * min(column_in(self.rows[line], column), 60)
-        return element("span", indent, element("em", "▲"), " ", escape(words), class_="alarm")
+        return element("span", indent, element("em", "▲"), " ", words, class_="alarm")
 
     # -- one call alone
 
@@ -205,10 +198,10 @@ class SourcePane:
         facts = self.facts(line, path)
         return [facts.count_text, percent_text(facts.share), facts.level, facts.state, self.parts(line, facts)]
 
-    def variants(self) -> dict[str, list[dict[int, list[object]]]]:
+    def variants(self) -> dict[int, list[dict[int, list[object]]]]:
         """For each function that is called twice the facts of its lines: of all calls together, then of each."""
         model, found = self.found.model, {}
-        for function in model.source.functions:
+        for number, function in enumerate(model.source.functions):
             paths = model.paths.get(function.name, [])
             lines = [
                 line
@@ -216,11 +209,5 @@ class SourcePane:
                 if all(block.function is function for block in blocks)
             ]
             if len(paths) > 1:
-                found[function.name] = [{it: self.row_facts(it, path) for it in lines} for path in (None, *paths)]
+                found[number] = [{it: self.row_facts(it, path) for it in lines} for path in (None, *paths)]
         return found
-
-
-def badge_width(badge: str) -> float:
-    """About how many characters of the code a badge takes."""
-    words = re.sub("<option.*?/option>|<[^>]*>", "", badge)
-    return 0.8 * len(words) + 3 + 18 * ("<select" in badge)

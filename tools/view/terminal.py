@@ -4,8 +4,9 @@ from view.exclusions import lines_text
 from view.file_view import View
 from view.lines import NOTHING, LineFacts
 from view.markup import shortened
-from view.part_row import column_in, labels_row
+from view.part_row import TAB, column_in, labels_row
 from view.report import percent_text
+from view.visible import in_line, visible
 
 # Codes of colours.
 GREY, RED, YELLOW, CYAN, BOLD_RED = "90", "31", "33", "36", "1;31"
@@ -16,7 +17,7 @@ def text(view: View, has_colour: bool = False) -> str:
 
 
 class Screen:
-    """The lines of the text."""
+    """The lines of the text. Each is made by `paint`, so that no text of a file reaches a terminal as it is."""
 
     def __init__(self, view: View, has_colour: bool) -> None:
         self.view, self.found, self.has_colour = view, view.analysis, has_colour
@@ -25,40 +26,47 @@ class Screen:
         self.number_width = max(4, len(str(len(view.rows))))
 
     def paint(self, code: str, text: str) -> str:
+        """A piece of a line, in a colour if it has a code."""
+        text = in_line(text)
         return f"\x1b[{code}m{text}\x1b[0m" if self.has_colour and code and text.strip() else text
 
     def lines(self) -> list[str]:
         rows = [line for number in range(len(self.view.rows)) for line in self.row(number)]
-        return [*self.heading(), *rows, *self.exclusions()]
+        return [*(self.paint("", it) for it in self.heading()), *rows, *(self.paint("", it) for it in self.exclusions())]
 
     def heading(self) -> list[str]:
-        found = []
-        if self.view.origin:
-            out = self.view.origin.written
-            found += [f"What is proved speaks of {out}, which ./sweet-c wrote from this file.", ""]
-        if self.view.differs:
+        view, found = self.view, []
+        for it in [view.unproved, *view.notes]:
+            found += [it] if it else []
+        found += [""] if found else []
+        if view.origin:
+            found += [f"What is proved speaks of {view.origin.written}, which ./sweet-c wrote from this file.", ""]
+        if view.differs:
             found += ["No line is marked. The rules of this viewer and of `sweet` do not agree on this file:"]
-            found += [f"  {self.view.differs}", ""]
-            found += [*self.view.answer.rstrip("\n").split("\n"), ""] if self.view.status == 0 else []
-        if self.view.refusal:
-            found += [f"There is no report. {self.view.refusal}", ""]
-        if self.found:
-            report = self.found.report
-            bound = "path bound" if self.found.model.is_by_path else "count bound"
-            told = f"no run costs more than {report.path_bound} (path bound, {report.path_word})"
-            found.append(f"{self.view.shown_path}: {told}")
-            found.append(f"count bound {report.count_bound}; shares are of the {bound}")
-            found += ["", f"{'in a run':>{self.count_width}} {'share':>5} {'line':>{self.number_width}}"]
-        return [*self.view.notes, *([""] if self.view.notes else []), *found]
+            found += [f"  {view.differs}", ""]
+            found += [*view.answer.rstrip("\n").split("\n"), ""] if view.status == 0 else []
+        if view.refusal:
+            found += [f"There is no report. {view.refusal.words}", ""]
+        return found + self.bounds()
+
+    def bounds(self) -> list[str]:
+        if not self.found:
+            return []
+        report = self.found.report
+        bound = "path bound" if self.found.model.is_by_path else "count bound"
+        told = f"no run costs more than {report.path_bound} (path bound, {report.path_word})"
+        found = [f"{self.view.shown_path}: {told}"]
+        found.append(f"count bound {report.count_bound}; shares are of the {bound}")
+        return [*found, "", f"{'in a run':>{self.count_width}} {'share':>5} {'line':>{self.number_width}}"]
 
     def row(self, line: int) -> list[str]:
         """A line of the source with what stands below it."""
-        facts, row = self.facts[line], self.view.rows[line].rstrip("\r")
+        facts, row = self.facts[line], self.view.rows[line].removesuffix("\r")
         count = facts.count_text.replace("–", "-")
         margin = f"{count:>{self.count_width}} {percent_text(facts.share):>5} {line + 1:>{self.number_width}} "
         is_off = facts.state in ("dead", "noway")
         colour = GREY if is_off else RED if facts.level > 6 else YELLOW if facts.level > 3 else ""
-        code = self.paint(GREY if is_off else "", row.expandtabs())
+        code = self.paint(GREY if is_off else "", visible(row).expandtabs(TAB))
         told = self.told(line)
         end = self.paint(CYAN, "   <- " + "; ".join(told)) if told else ""
         blank = " " * len(margin) + ": "

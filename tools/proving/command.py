@@ -17,7 +17,7 @@ from .work import Work
 
 WAITS = "another call is proving in this repository; waiting for it, to take what it proves"
 BEGINS = (
-    "the program is proved first, from nothing in 45 minutes to an hour on four processors; "
+    "the program is proved first. From nothing ./sweet takes half an hour to an hour on four processors; "
     "./sweet-try answers sooner, without proof"
 )
 ABOUT = """\

@@ -18,8 +18,8 @@ from .progress import Progress
 CRATE = "sweet"
 KEPT = folder_of(CRATE) / "out" / "try"
 PROGRAM = KEPT / "sweet"
-# As the kit compiles a program, but for size, which takes less time and is as fast, and without the address sanitizer: the tests of indices and of sums
-# stand in the bitcode itself.
+# As the kit compiles a program, but for size, which is as quick and takes less time, and without the address sanitizer:
+# the tests of indices and of sums stand in the bitcode itself.
 OPTIMISED = ("-Os", "-fPIE", "-ffunction-sections", "-fdata-sections", "-mllvm", "-trap-unreachable")
 # Without words the program answers so.
 ANSWER, STATUS = b"fault usage\n", 1

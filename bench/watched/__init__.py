@@ -1,0 +1,1 @@
+"""What `bench/gate` sees of a gate at work, and the tables that it makes of it."""

@@ -1,0 +1,1 @@
+"""Proves a crate and those that it stands on, and keeps what is proved: what `tools/prove` runs."""

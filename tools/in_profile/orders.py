@@ -83,7 +83,7 @@ def orders_of(effects: Effects, sides: Sides) -> Iterator[Order]:
 def shared(one: Effect, other: Effect) -> list[str]:
     """The names of what one of both writes and the other one reads or writes."""
     found = [*met(one.writes, other.writes), *met(one.writes, other.reads), *met(one.reads, other.writes)]
-    return list(dict.fromkeys(safe_text(it.name) for it in found))
+    return sorted({safe_text(it.name) for it in found})
 
 
 def told_part(node: c_ast.Node, whole: c_ast.Node) -> str:
@@ -98,7 +98,7 @@ def text_of(node: c_ast.Node) -> str:
     if isinstance(node, c_ast.Decl):
         return node.name
     try:
-        return c_generator.CGenerator().visit(node)
+        return c_generator.CGenerator(reduce_parentheses=True).visit(node)
     except RecursionError:
         return ".."
 

@@ -17,11 +17,16 @@ class Reach:
 
     def rank(self, node: c_ast.Node) -> int:
         """How many `*` may stand before an expression until it is a number."""
-        if id(node) not in self.ranks:
-            self.ranks[id(node)] = self.new_rank(node)
-        return self.ranks[id(node)]
+        found = self.ranks.get(id(node))
+        if found is None:
+            found = 0
+            for it in parts(node):
+                found = max(found, self.rank(it))
+            found = self.ranks[id(node)] = self.own_rank(node, found)
+        return found
 
-    def new_rank(self, node: c_ast.Node) -> int:
+    def own_rank(self, node: c_ast.Node, inner: int) -> int:
+        """The rank of an expression, where the greatest of its parts is known."""
         if isinstance(node, c_ast.ID):
             found = self.objects.of.get(id(node))
             return found.shape.rank if found else 0
@@ -30,8 +35,7 @@ class Reach:
         if isinstance(node, c_ast.BinaryOp) and node.op == "-" and self.rank(node.right):
             return 0
         step = {"*": -1, "&": 1}.get(node.op, 0) if isinstance(node, c_ast.UnaryOp) else 0
-        step = -1 if isinstance(node, c_ast.ArrayRef) else step
-        return max(0, max((self.rank(it) for it in parts(node)), default=0) + step)
+        return max(0, inner - 1 if isinstance(node, c_ast.ArrayRef) else inner + step)
 
     def of(self, node: c_ast.Node) -> frozenset[Thing]:
         """What the value of an expression may point to, or what an array is."""

@@ -1,7 +1,7 @@
 """Random programs whose calls and assignments change what other parts of the same expression read.
 
-Where C leaves an order open and it matters, `sweet-c` has to tell it. So they have little but such expressions, of calls
-that touch one global each, elements by constants and by globals, and places behind pointers.
+Where C leaves an order open and it matters, `sweet-c` has to tell it. So they have little but such expressions, of
+calls that touch one global each, elements by constants and by globals, and places behind pointers.
 """
 
 import random
@@ -49,7 +49,8 @@ TESTS = ("{0}", "{0} > 0", "{0} != 0", "!({0} == 0)", "0 < {0}", "{0} > x", "{0}
          "!{0} || turn() > 9")
 BODIES = ("m++;", "if (m++ > 3) break;", "{ if (m & 1) { m++; continue; } m += 3; }", "{ int l = 2; m += l; }")
 LOOPS = ("while ({0}) {{ {1} }}", "for (; {0}; m ^= 1) {{ {1} }}", "do {{ {1} }} while ({0});")
-CHOICES = ("if ({0}) {{ int l = m; m += l; }} else m--;", "m = {0} ? m + 1 : m * 2;", "if (m > 3) m = 2; else if ({0}) m = 7; else l++;")
+CHOICES = ("if ({0}) {{ int l = m; m += l; }} else m--;", "m = {0} ? m + 1 : m * 2;",
+           "if (m > 3) m = 2; else if ({0}) m = 7; else l++;")
 
 
 class OrderMaker:
@@ -76,7 +77,8 @@ class OrderMaker:
             return self.pick("x", "x", "y", "k", "l", "m")
         if kind < 7:
             return f"{self.pick('a', 'a', 'a', 'c')}[{self.index(depth)}]"
-        return self.pick("*p", "p[0]", "*q", "p[1]", f"*({self.pick('a', 'c')} + {self.index(depth)})", self.pick(*MOVED))
+        summed = f"*({self.pick('a', 'c')} + {self.index(depth)})"
+        return self.pick("*p", "p[0]", "*q", "p[1]", summed, self.pick(*MOVED))
 
     def leaf(self) -> str:
         return self.pick(str(self.below(9)), "x", "x", "y", "i", "l", "m", f"a[{self.below(4)}]", "*p", "a[i]")
@@ -132,7 +134,8 @@ class OrderMaker:
             return self.condition()
         if kind == 7:
             return f"k = pure({self.expression(depth)}, {self.expression(depth)});"
-        return f"{self.pick('k ^=', 'm =', 'k +=')} ({self.expression(depth)} {self.pick(*BINARY)} {self.expression(depth)});"
+        whole = f"{self.expression(depth)} {self.pick(*BINARY)} {self.expression(depth)}"
+        return f"{self.pick('k ^=', 'm =', 'k +=')} ({whole});"
 
     def program(self) -> str:
         """The statements six times, from other values each time."""

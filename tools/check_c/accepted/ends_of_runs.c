@@ -31,3 +31,9 @@ void abort(void); int f(int x) { if (x) return 4; abort(); } int main(void) { re
 int main(void) { int x = 6; x > 5 ? exit(x + 1) : abort(); return 0; }
 
 int f(int x) { switch (x) { case 1: return 6; default: __builtin_abort(); } } int main(void) { return f(1) + f(1); }
+
+#include <stdlib.h>
+int n; void f(int x) { if (x > 5) exit(n++); if (x > 2) { _exit(x); } } int main(void) { f(1); n = 4; f(2); int sw_exit_2 = 3; return n + sw_exit_2; }
+
+#include <stdlib.h>
+int n; int f(int x) { return x ? n++ : (exit(n), 1); } int main(void) { f(1); f(2); f(0); return n; }

@@ -6,7 +6,7 @@ int a[9000]; int main(void) { return a[0]; }
 // 1: statements nested deeper than 32
 int main(void) { int x = 1; { { { { { { { { { { { { { { { { { { { { { { { { { { { { { { { { { { { { { { { { x++; } } } } } } } } } } } } } } } } } } } } } } } } } } } } } } } } } } } } } } } } return x; }
 
-// 86: more than 256 objects, parameters and calls that give a value: 262
+// 129: more than 256 objects, parameters and calls that give a value: 262
 int f(int x) { return x; } int main(void) { int s = 0;
   s += f(s) + 1;
   s += f(s) + 1;

@@ -1,4 +1,4 @@
-"""Attributes and lines of `#pragma`: each of the tables is struck out without a change, or refused, and shown on the page."""
+"""Attributes and lines of `#pragma`: each is struck out without a change, or refused, and shown on the page."""
 
 import collections.abc
 import pathlib
@@ -57,7 +57,7 @@ def struck_out(spelling: str, room: pathlib.Path) -> str:
 
 
 def refused(spelling: str, room: pathlib.Path) -> str:
-    """What is wrong with the attributes that are to be refused, or nothing: each on its line, and one that is in no list."""
+    """What is wrong with the attributes that are to be refused, or nothing. One is in no list."""
     due = {**{name: f"changes {about}" for name, about in members(REFUSED).items()}, "not_known": "is in no list"}
     rows = [declared(name, spelling, i) for i, name in enumerate(due)]
     faults = [(line, f"the attribute {name}, which {about}") for line, (name, about) in enumerate(due.items(), 2)]
@@ -67,7 +67,8 @@ def refused(spelling: str, room: pathlib.Path) -> str:
 
 def pragmas(form: str, room: pathlib.Path) -> str:
     """What is wrong with lines of #pragma, or nothing; `_Pragma` is one too."""
-    due = {**{name: f"changes {about}" for name, about in members(REFUSED_PRAGMAS).items()}, "not known": "is in no list"}
+    due = {name: f"changes {about}" for name, about in members(REFUSED_PRAGMAS).items()}
+    due["not known"] = "is in no list"
     rows, faults = [], []
     for line, name in enumerate({**members(STRUCK_PRAGMAS), **due}, 1):
         text = f"{name} {LINES.get(name, 'X')}".strip()

@@ -1,4 +1,4 @@
-"""Names, files and moments that `sweet-c` has to stand: each in a folder of its own, by the script as a user calls it."""
+"""Names, files and moments that `sweet-c` has to stand, each in a folder of its own, called as a user calls it."""
 
 import collections.abc
 import dataclasses
@@ -13,8 +13,9 @@ import time
 TOP = pathlib.Path(__file__).resolve().parent.parent.parent
 SECONDS = 120
 PLAIN = "int main(void) { return 3; }\n"
-NAMES = ("@w.c", "-x.c", "-", "--root=f", "a b.c", 'a"b\\c\nd.c', "$(touch ran).c", "; touch ran #.c", "a'b.c", "größe.c",
-         "b\udcff.c", "w.s", "w.o", "w", "*.c", "%s%n.c", "a=b.c", "sub/@w.c", "sub/-x.c", "@sub/w.c", "a=b/w.c", "./w.c")
+NAMES = ("@w.c", "-x.c", "-", "--root=f", "a b.c", 'a"b\\c\nd.c', "$(touch ran).c", "; touch ran #.c", "a'b.c",
+         "größe.c", "b\udcff.c", "w.s", "w.o", "w", "*.c", "%s%n.c", "a=b.c", "sub/@w.c", "sub/-x.c", "@sub/w.c",
+         "a=b/w.c", "./w.c")
 # What `@w.c` would be to a compiler that takes it for a file of options.
 OPTIONS = "-wrapper ./evil.sh -o pwned.c -fplugin=./evil.sh w.c"
 EVIL = "#!/bin/sh\ntouch ran\n"
@@ -56,48 +57,55 @@ def refused(name: str, text: str | bytes, says: str) -> Case:
     return Case(name, {"in.c": text}, ["in.c", "-o", "out.c"], 1, says)
 
 
-DEEP = "nested deeper than"
-CASES = [
-    refused("a sum of 5,000 terms", terms(5000), f"in.c:3: outside of the profile: expressions and statements {DEEP} 500"),
-    refused("5,000 signs", f"int x; int main(void) {{\n return {'- ' * 5000} x; }}", f"in.c:2: outside of the profile"),
-    refused("5,000 brackets", f"int main(void) {{\n return {'(' * 5000}1{')' * 5000}; }}", f"in.c:2: outside of the profile"),
-    refused("400 loops", f"int x; int main(void) {{\n {'for (;;) ' * 400} x++; }}", f"in.c:2: outside of the profile"),
-    refused("3,000 arms", "int x; int main(void) {\n" + "if (x)\nx++; else " * 3000 + "; }", ": outside of the profile"),
+OUTSIDE, DEEP = "outside of the profile:", "expressions and statements nested deeper than 500"
+REFUSED = [
+    refused("a sum of 5,000 terms", terms(5000), f"in.c:3: {OUTSIDE} {DEEP}"),
+    refused("5,000 signs", f"int x; int main(void) {{\n return {'- ' * 5000} x; }}", f"in.c:2: {OUTSIDE} {DEEP}"),
+    refused("5,000 brackets", f"int main(void) {{\n return {'(' * 5000}1{')' * 5000}; }}", f"in.c:2: {OUTSIDE} "),
+    refused("400 loops", f"int x; int main(void) {{\n {'for (;;) ' * 400} x++; }}", f"in.c:2: {OUTSIDE}"),
+    refused("3,000 arms", "int x; int main(void) {\n" + "if (x)\nx++; else " * 3000 + "; }", f": {OUTSIDE} {DEEP}"),
     refused("a file that includes itself twice", '#include "in.c"\n' * 2, "the preprocessor refuses in.c:"),
     refused("macros of 13 sums", sums(13), "has more than 1,048,576 bytes"),
     refused("a device that is included", '#include "/dev/zero"\n' + PLAIN, "in.c"),
-    refused("a file that is none of UTF-8", PLAIN.encode() + b"int x\xff\xfe;\n", "in.c:2: outside of the profile: a name with"),
+    refused("a file that is none of UTF-8", PLAIN.encode() + b"int x\xff\xfe;\n", f"in.c:2: {OUTSIDE} a name with"),
     refused("a long file", b" " * 2_000_000, "in.c has more than 1,048,576 bytes"),
     refused("an empty file", "", "there is no function main"),
     refused("an expression that is none", "int main(void) {\n return\n ; ) }", "is not read as C99: in.c:3:"),
+    refused("a sign that is none", "int main(void) {\n return @; }", "is not read as C99: in.c:2:"),
     refused("a file that ends early", "int main(void) {\n return 1;\n", "is not read as C99: in.c:"),
     refused("a bracket too many", "int main(void) {\n return 1; } }\n", "is not read as C99: in.c:2"),
-    refused("an escape that a string follows", 'int main(void) {\n return sizeof "\\x1" "2"; }', "in.c:2: outside of the profile"),
+    refused("an escape that a string follows", 'int main(void) {\n return sizeof "\\x1" "2"; }', f"in.c:2: {OUTSIDE}"),
     refused("257 functions", "".join(f"int f{i}(void) {{ return 1; }}\n" for i in range(257)) + PLAIN,
-            "in.c:257: outside of the profile: more than 256 functions: 258"),
-    refused("what is too long for sweet", "int x; int main(void) {" + "{" * 28 + "\nx++;" * 8500 + "}" * 29, "out.c is not written: it would have"),
-    Case("CRLF and a mark of UTF-8", {"in.c": b"\xef\xbb\xbf" + PLAIN.replace(" ", "\r\n").encode()}, ["in.c", "-o", "out.c"], 0,
-         makes=True),
+            f"in.c:257: {OUTSIDE} more than 256 functions: 258"),
+    refused("what is too long for sweet", "int x; int main(void) {" + "{" * 28 + "\nx++;" * 8500 + "}" * 29,
+            "out.c is not written: it would have"),
+]
+FILES = [
+    Case("CRLF and a mark of UTF-8", {"in.c": b"\xef\xbb\xbf" + PLAIN.replace(" ", "\r\n").encode()},
+         ["in.c", "-o", "out.c"], 0, makes=True),
     Case("a sum of 300 terms", {"in.c": terms(300)}, ["in.c", "-o", "out.c"], 0, makes=True),
     Case("no file", {}, ["in.c", "-o", "out.c"], 1, "there is no file in.c"),
     Case("a folder", {}, [".", "-o", "out.c"], 1, ". is not read: "),
     Case("a device", {}, ["/dev/zero", "-o", "out.c"], 1, "/dev/zero is no regular file"),
-    Case("OUT.c is IN.c", {"in.c": PLAIN}, ["in.c", "-o", "./in.c"], 1, "./in.c is not written: it is in.c, which was read"),
+    Case("OUT.c is IN.c", {"in.c": PLAIN}, ["in.c", "-o", "./in.c"], 1, "./in.c is not written: it is in.c, which was"),
     Case("OUT.c in no folder", {"in.c": PLAIN}, ["in.c", "-o", "no/out.c"], 1, "no/out.c is not written: "),
     Case("OUT.c is a folder", {"in.c": PLAIN}, ["in.c", "-o", "."], 1, ". is not written: "),
     Case("OUT.c on a full disk", {"in.c": PLAIN}, ["in.c", "-o", "/dev/full"], 1, "/dev/full is not written: "),
     Case("OUT.c is included", {"in.c": '#include "in.h"\n' + PLAIN, "in.h": "int x;\n"}, ["in.c", "-o", "in.h"], 1,
          "in.h is not written: it is in.h, which was read"),
-    Case("OUT.c is the file of ranges", {"in.c": PLAIN, "r": ""}, ["in.c", "-o", "r", "--inputs", "r", "--try"], 1, "r is not"),
+    Case("OUT.c has the ranges", {"in.c": PLAIN, "r": ""}, ["in.c", "-o", "r", "--inputs", "r", "--try"], 1, "r is"),
     Case("no words", {}, [], 2, "usage: sweet-c"),
-    *(Case(f"ranges: {text!r}", {"in.c": "int x; " + PLAIN, "r": text}, ["in.c", "-o", "out.c", "--inputs", "r", "--try"], 1, says)
-      for text, says in (
-          (b"\xff", "r is no file of ranges: "), ("input = 1", "r is no file of ranges: "), ("[", "r is no file of ranges: "),
-          ("[[input]]\nframe = 'x'", "entry 1 has other keys"), ("x = " + "[" * 5000, "r is no file of ranges: "),
-          ("[[input]]\nframe='x'\noffset=0\nsize='8'\nlow=0\nhigh=1", "size is of another kind"),
-          ("[[input]]\nframe='x'\noffset=8\nsize=8\nlow=0\nhigh=1", "x of the ranges has no cell at byte 8"),
-          ("[[input]]\nframe='y'\noffset=0\nsize=8\nlow=0\nhigh=1", "y of the ranges is no global of the program"))),
-    Case("no such ranges", {"in.c": PLAIN}, ["in.c", "-o", "out.c", "--inputs", "r", "--try"], 1, "there is no file r"),
+]
+ROW = "[[input]]\nframe = '{}'\noffset = {}\nsize = {}\nlow = 0\nhigh = 1\n"
+RANGES = [
+    Case(f"ranges: {text[:40]!r}", {"in.c": "int x; " + PLAIN, "r": text},
+         ["in.c", "-o", "out.c", "--inputs", "r", "--try"], 1, says)
+    for text, says in (
+        (b"\xff", "r is no file of ranges: "), ("input = 1", "r is no file of ranges: "),
+        ("[", "r is no file of ranges: "), ("x = " + "[" * 5000, "r is no file of ranges: "),
+        ("[[input]]\nframe = 'x'", "entry 1 has other keys"), (ROW.format("x", 0, "'8'"), "size is of another kind"),
+        (ROW.format("x", 8, 8), "x of the ranges has no cell at byte 8"),
+        (ROW.format("y", 0, 8), "y of the ranges is no global of the program"))
 ]
 
 
@@ -105,11 +113,15 @@ def words_of(*words: str) -> list[str]:
     return [sys.executable, str(TOP / "sweet-c"), *words]
 
 
+def bytes_of(text: str | bytes) -> bytes:
+    return text if isinstance(text, bytes) else text.encode()
+
+
 def laid_out(files: dict[str, str | bytes], folder: pathlib.Path) -> None:
     for name, text in files.items():
         path = folder / name
         path.parent.mkdir(parents=True, exist_ok=True)
-        path.write_bytes(text if isinstance(text, bytes) else text.encode())
+        path.write_bytes(bytes_of(text))
 
 
 def called(words: list[str], folder: pathlib.Path, temporary: pathlib.Path, seconds: float) -> Ended:
@@ -128,13 +140,14 @@ def fault_of(case: Case, room: pathlib.Path) -> str:
     """What is wrong with the end of a call, or nothing."""
     with tempfile.TemporaryDirectory(dir=room) as folder, tempfile.TemporaryDirectory(dir=room) as temporary:
         laid_out(case.files, pathlib.Path(folder))
-        before = {str(pathlib.Path(name)): (it if isinstance(it, bytes) else it.encode()) for name, it in case.files.items()}
+        before = {str(pathlib.Path(name)): bytes_of(it) for name, it in case.files.items()}
         found = called(case.words, pathlib.Path(folder), pathlib.Path(temporary), case.seconds)
         made = {name: it for name, it in found.files.items() if before.get(name) != it}
         if found.status != case.status or case.says not in found.said or "Traceback" in found.said:
             return f"status {found.status} and {found.said[-300:]!r}, where {case.status} and {case.says!r} are due"
         wanted = ["out.c"] if case.makes else []
-        if sorted(it for it in made if it != "out.c" or case.makes or case.status == 0) != wanted:
+        # A trial comes after OUT.c is written.
+        if sorted(it for it in made if it != "out.c" or "--try" not in case.words) != wanted:
             return f"it has made {sorted(made)}"
         return left(pathlib.Path(temporary))
 
@@ -211,20 +224,20 @@ def unread(room: pathlib.Path) -> str:
 
 def last_resorts(room: pathlib.Path) -> collections.abc.Iterator[tuple[str, str]]:
     """A fault of our own, and want of memory, are told in one sentence."""
-    for raised, says in (("KeyError(1)", "sweet-c: a fault of sweet-c itself"), ("MemoryError()", "sweet-c: memory ran out")):
+    for raised, says in (("KeyError(1)", "a fault of sweet-c itself"), ("MemoryError()", "memory ran out")):
         code = f"import in_profile.command as it\ndef bad(*_): raise {raised}\nit.written_from = bad\n"
         code += "raise SystemExit(it.main(['in.c', '-o', 'out.c']))"
         with tempfile.TemporaryDirectory(dir=room) as folder:
             laid_out({"in.c": PLAIN}, pathlib.Path(folder))
             ran = subprocess.run([sys.executable, "-B", "-c", code], cwd=folder, capture_output=True, text=True,
                                  env={**os.environ, "PYTHONPATH": str(TOP / "tools")}, timeout=SECONDS)
-            is_well = ran.returncode == 70 and ran.stderr.startswith(says) and ran.stderr.count("\n") == 1
+            is_well = ran.returncode == 70 and ran.stderr.startswith(f"sweet-c: {says}") and ran.stderr.count("\n") == 1
             yield f"the last resort for {raised}", "" if is_well else f"status {ran.returncode}: {ran.stderr}"
 
 
 def checks(room: pathlib.Path) -> collections.abc.Iterator[tuple[str, str]]:
     """The name of each thing that is held, and what is wrong with it."""
-    for case in [*CASES, *map(name_case, NAMES)]:
+    for case in [*REFUSED, *FILES, *RANGES, *map(name_case, NAMES)]:
         yield case.name, fault_of(case, room)
     yield from links(room)
     yield from pipes(room)

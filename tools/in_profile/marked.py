@@ -8,13 +8,14 @@ from .meanings import against_attribute, against_pragma
 from .pieces import Names, Piece, pieces
 from .refusal import Refusal, Told, outside
 
-# Brackets in one another, and characters of a line: one release of the parser looks through a line at each of its tokens.
+# Brackets in one another, and characters of a line: one release of the parser looks through the line at each token.
 DEEPEST, LONGEST = 256, 4000
 C99 = frozenset("""auto break case char const continue default do double else enum extern float for goto if inline int
 long register restrict return short signed sizeof static struct switch typedef union unsigned void volatile while _Bool
 _Complex _Imaginary""".split())
 # Words of compilers, and what is said against them; they are struck out with what stands in the brackets behind them.
-WORDS = {"__thread": "an object of each thread", "_Thread_local": "an object of each thread", "_Atomic": "an atomic object"}
+WORDS = {"__thread": "an object of each thread", "_Thread_local": "an object of each thread",
+         "_Atomic": "an atomic object"}
 ASSEMBLY, ATTRIBUTE = ("asm", "__asm", "__asm__"), ("__attribute", "__attribute__")
 BESIDE_ASSEMBLY = ("volatile", "__volatile", "__volatile__", "goto", "inline", "__inline", "__inline__")
 JOINED = re.compile(r'\\(?:x[0-9a-fA-F]+|[0-7]{1,2})"$')
@@ -141,7 +142,8 @@ class Marked:
     def attribute(self, at: int) -> int:
         """Strikes an attribute out, and judges each of its names."""
         first, last = at + 2, self.closing.get(at + 1)
-        if not (self.is_sign(at + 1, "(") and self.is_sign(first, "(") and last and self.closing.get(first) == last - 1):
+        is_double = self.is_sign(at + 1, "(") and self.is_sign(first, "(")
+        if not (is_double and last and self.closing.get(first) == last - 1):
             return self.dropped(at, last, "an attribute of this form")
         k = first + 1
         while k < last - 1:

@@ -43,7 +43,8 @@ def say(*told: Told | str) -> None:
     """Prints sentences. Where nobody can read them the status is left."""
     try:
         if sys.stderr is not None:
-            print(*(it if isinstance(it, Told) else Told("", 0, it) for it in told), sep="\n", file=sys.stderr, flush=True)
+            lines = (it if isinstance(it, Told) else Told("", 0, it) for it in told)
+            print(*lines, sep="\n", file=sys.stderr, flush=True)
     except OSError:
         # Else Python tries again at its end, and has a status of its own for that.
         sys.stderr = None

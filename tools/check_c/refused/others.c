@@ -28,3 +28,7 @@ int main(void) { static int z = y;
 // 1: an array without elements; 1: more initialisers than members
 int a[2] = {1, 2, 3}; int b[0];
 int main(void) { return a[0]; }
+
+// 1: an array without a length; 2: an array without a length
+int a[4][]; int main(void) {
+  int b[2][]; return 0; }

@@ -35,7 +35,7 @@ def started(binary: str) -> collections.abc.Iterator["Browser"]:
     with tempfile.TemporaryDirectory(ignore_cleanup_errors=True) as profile:
         words = [binary, "--headless", "--remote-debugging-pipe", f"--user-data-dir={profile}", "--disable-gpu"]
         words += ["--no-first-run", "--disable-background-networking", "--disable-component-update", "--disable-sync"]
-        words += ["--disable-dev-shm-usage", "--host-resolver-rules=MAP * ~NOTFOUND", "--window-size=1400,1000"]
+        words += ["--disable-dev-shm-usage", "--host-resolver-rules=MAP * ~NOTFOUND", "--window-size=1400,4000"]
         # Root, as in a container, may run it only without its own walls. What it loads here was made here.
         words += ["--no-sandbox"] if os.geteuid() == 0 else []
         process, told, heard = spawned(words)
@@ -83,16 +83,25 @@ class Browser:
             self.call(f"{it}.enable")
         self.world = 0
 
-    def call(self, method: str, **given: object) -> dict[str, typing.Any]:
-        """What the browser answers to a call."""
+    def tell(self, method: str, **given: object) -> int:
+        """Tells the browser to do something. The number by which it answers."""
         self.number += 1
         message: dict[str, object] = {"id": self.number, "method": method, "params": given}
         message |= {"sessionId": self.session} if self.session else {}
-        os.write(self.told, json.dumps(message).encode("ascii") + b"\0")
-        answer = self.until(lambda it: it.get("id") == self.number, method)
+        rest = json.dumps(message).encode("ascii") + b"\0"
+        while rest:
+            rest = rest[os.write(self.told, rest) :]
+        return self.number
+
+    def answer(self, number: int, method: str) -> dict[str, typing.Any]:
+        answer = self.until(lambda it: it.get("id") == number, method)
         if "error" in answer:
             raise Silent(f"{method}: {answer['error'].get('message')}")
         return answer["result"]
+
+    def call(self, method: str, **given: object) -> dict[str, typing.Any]:
+        """What the browser answers to a call."""
+        return self.answer(self.tell(method, **given), method)
 
     def until(self, wanted: collections.abc.Callable[[dict], bool], what: str) -> dict[str, typing.Any]:
         """The first message that is wanted. Others are kept if they tell of the page."""
@@ -126,13 +135,22 @@ class Browser:
             raise Silent(answer["exceptionDetails"].get("exception", {}).get("description", script))
         return answer["result"].get("value")
 
-    def point(self, x: float, y: float, is_click: bool) -> None:
-        """Moves the mouse, and clicks."""
-        self.call("Input.dispatchMouseEvent", type="mouseMoved", x=x, y=y)
-        for kind in ("mousePressed", "mouseReleased") if is_click else ():
-            self.call("Input.dispatchMouseEvent", type=kind, x=x, y=y, button="left", clickCount=1)
-
-    def press(self, key: str) -> None:
-        given = {"key": key, **({"text": key} if len(key) == 1 else {})}
-        self.call("Input.dispatchKeyEvent", type="keyDown", **given)
-        self.call("Input.dispatchKeyEvent", type="keyUp", key=key)
+    def use(self, places: list[list[float]], keys: collections.abc.Iterable[str]) -> None:
+        """Moves the mouse to places, clicks at two of three, and presses keys. Only what all of it led to is waited for:
+        a machine may be busy."""
+        told = []
+        for number, (x, y) in enumerate(places):
+            told.append(self.tell("Input.dispatchMouseEvent", type="mouseMoved", x=x, y=y))
+            for kind in ("mousePressed", "mouseReleased") if number % 3 != 2 else ():
+                click = {"button": "left", "clickCount": 1}
+                told.append(self.tell("Input.dispatchMouseEvent", type=kind, x=x, y=y, **click))
+        for key in keys:
+            text = {"text": key} if len(key) == 1 else {}
+            told.append(self.tell("Input.dispatchKeyEvent", type="keyDown", key=key, **text))
+            told.append(self.tell("Input.dispatchKeyEvent", type="keyUp", key=key))
+        waiting = set(told)
+        while waiting:
+            answer = self.until(lambda it: it.get("id") in waiting, "the mouse and keys")
+            waiting.discard(answer["id"])
+            if "error" in answer:
+                raise Silent(f"an event: {answer['error'].get('message')}")

@@ -23,20 +23,16 @@ function skeleton() {
   });
 }
 
-// Elements that can be pointed at, those of each kind first.
-function targets(most) {
+// The places of elements that can be pointed at, those of each kind first. The window is so high that nothing is scrolled.
+function places(most) {
   const all = [...document.querySelectorAll("[data-n], summary, #sel td")].filter(it => it.localName !== "select");
   const kindOf = it => it.localName + it.classList[0] + it.closest("section, aside, header")?.id;
   const kinds = new Set(all.map(kindOf));
   const firsts = [...kinds].flatMap(kind => all.filter(it => kindOf(it) === kind).slice(0, 3));
-  return (globalThis.aims = [...new Set([...firsts, ...all])].slice(0, most)).length;
-}
-
-function placeOf(number) {
-  const aim = globalThis.aims[number];
-  aim.scrollIntoView({ block: "center", inline: "nearest", behavior: "instant" });
-  const { left, top, width, height } = aim.getBoundingClientRect();
-  return [left + Math.min(width / 2, 60), top + height / 2];
+  return [...new Set([...firsts, ...all])].slice(0, most).map(it => {
+    const { left, top, width, height } = it.getBoundingClientRect();
+    return [left + Math.min(width / 2, 60), top + height / 2];
+  });
 }
 
 // Opens what is folded, and takes each choice of each box.
@@ -61,6 +57,17 @@ function unseen() {
     for (const { name, value } of it.attributes) if (form.test(value)) found.push(`${name}=${value}`);
   }
   return found.map(it => "a character that nobody sees in " + JSON.stringify(it.slice(0, 80)));
+}
+
+// All that is seen of a page as it was loaded, and what can be pointed at once it is unfolded.
+function first(most) {
+  const found = { title: document.title, skeleton: skeleton(), parts: parts() };
+  unfold();
+  return { ...found, places: places(most) };
+}
+
+function last(table) {
+  return { title: document.title, faults: [...strangers(table), ...unseen()], parts: parts() };
 }
 
 // What the page's script must have done: the lists have a stop each, and the box tells of the costliest line.

@@ -1,4 +1,4 @@
-"""What the proof of each function takes: a crate is proved once more, in one process that tells when it ends with each."""
+"""What the proof of each function takes: a crate is proved once more, by a process that tells when it ends with each."""
 
 import collections.abc
 import re

@@ -2,6 +2,7 @@
 
 import collections.abc
 import contextlib
+import ctypes
 import os
 import pathlib
 import signal
@@ -9,6 +10,13 @@ import subprocess
 import typing
 
 SECONDS = 10
+# Of prctl: the signal that the process is sent when the one that began it has ended, however that ended.
+PR_SET_PDEATHSIG = 1
+LIBC = ctypes.CDLL(None)
+
+
+def end_with_caller() -> None:
+    LIBC.prctl(PR_SET_PDEATHSIG, signal.SIGTERM)
 
 
 def begun(
@@ -20,7 +28,14 @@ def begun(
     """Begins the process in this folder; what it writes goes to the log, and its own files into the room."""
     variables = {**os.environ, **({"TMPDIR": str(room)} if room else {})}
     return subprocess.Popen(
-        words, cwd=folder, env=variables, stdin=subprocess.DEVNULL, stdout=log, stderr=log, start_new_session=True
+        words,
+        cwd=folder,
+        env=variables,
+        stdin=subprocess.DEVNULL,
+        stdout=log,
+        stderr=log,
+        start_new_session=True,
+        preexec_fn=end_with_caller,
     )
 
 

@@ -22,9 +22,9 @@ BEGINS = (
 )
 ABOUT = """\
 Proves a crate and those that it stands on, as many side by side as there are processors and memory, and keeps what is
-proved, also where it is stopped: docs/how-to.md, "What a change costs". A library is proved to its statements, which are
-all that the crates above read of it, and a program to the file crates/NAME/out/NAME. What the prover says of a crate is
-shown only where it is not proved; the status is then 1, and 70 where this was stopped or could not work."""
+proved, also where it is stopped: docs/how-to.md, "What a change costs". A library is proved to its statements, which
+are all that the crates above read of it, and a program to the file crates/NAME/out/NAME. What the prover says of a
+crate is shown only where it is not proved; the status is then 1, and 70 where this was stopped or could not work."""
 RUNS = "tools/prove --run NAME WORDS is what ./sweet calls: it becomes the program, once it is proved."
 
 
@@ -38,7 +38,7 @@ def given(words: list[str]) -> argparse.Namespace:
     return reader.parse_args(words)
 
 
-def prove(name: str, is_anew: bool = False, is_over_kept: bool = False) -> None:
+def prove(name: str, is_anew: bool = False, is_over_kept: bool = False, first: str = "") -> None:
     """Proves the crate; each other call on the same part of the store waits until this has ended."""
     since = time.time()
     store = store_of(graph_below(name), found_kit(), is_over_kept)
@@ -46,7 +46,7 @@ def prove(name: str, is_anew: bool = False, is_over_kept: bool = False) -> None:
         store.remove_left()
         if is_anew:
             store.remove_all()
-        work = Work(store, since)
+        work = Work(store, since, first)
         try:
             while not work.is_over():
                 work.step()
@@ -57,9 +57,7 @@ def prove(name: str, is_anew: bool = False, is_over_kept: bool = False) -> None:
 def run(name: str, words: list[str]) -> int:
     """Proves the program where that is not done, and becomes it."""
     program = folder_of(name) / "out" / name
-    if not program.exists():
-        say(NAME, BEGINS)
-    prove(name)
+    prove(name, first="" if program.exists() else BEGINS)
     # Python ignores it, and what it becomes would too.
     signal.signal(signal.SIGPIPE, signal.SIG_DFL)
     os.execv(program, [program, *words])

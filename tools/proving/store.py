@@ -1,8 +1,8 @@
 """Where it is kept what was proved, by a checksum of all that it was proved from.
 
-It is git's own folder, which neither `rt ci` nor a new checkout empties and which the worktrees of a repository share; where
-there is no git it is a folder `out` of the repository. What was proved from nothing and what was proved over folders
-of the kit have a part each, and neither takes anything of the other.
+It is git's own folder, which neither `rt ci` nor a new checkout empties and which the worktrees of a repository share;
+where there is no git it is a folder `out` of the repository. What was proved from nothing and what was proved over
+folders of the kit have a part each, and neither takes anything of the other.
 """
 
 import dataclasses

@@ -4,10 +4,10 @@ import os
 import time
 
 from building.crates import is_program
-from building.ending import Refused
+from building.ending import Refused, say
 
 from . import proof
-from .progress import Progress
+from .progress import NAME, Progress
 from .proof import Proof
 from .store import Store
 
@@ -24,10 +24,13 @@ def places() -> int:
 
 
 class Work:
-    """The crates of a store on their way to be proved; `since` is when the call began."""
+    """The crates of a store on their way to be proved; `since` is when the call began.
 
-    def __init__(self, store: Store, since: float) -> None:
-        self.store, self.since = store, since
+    `first` is said before the first proof, if one has to be made.
+    """
+
+    def __init__(self, store: Store, since: float, first: str = "") -> None:
+        self.store, self.since, self.first = store, since, first
         self.places = places()
         self.progress = Progress(store.graph, self.places)
         self.waiting = sorted(store.graph.named, key=lambda it: -store.graph.way_up(it))
@@ -51,7 +54,13 @@ class Work:
             if self.store.is_kept(crate):
                 self.take_in(crate)
             else:
-                self.running[crate] = proof.begun(self.store, crate)
+                self.begin(crate)
+
+    def begin(self, crate: str) -> None:
+        if self.first:
+            say(NAME, self.first)
+        self.first = ""
+        self.running[crate] = proof.begun(self.store, crate)
 
     def take_in(self, crate: str) -> None:
         self.store.use(crate)

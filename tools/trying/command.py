@@ -15,7 +15,7 @@ from .build import CRATE, KEPT, PROGRAM, build, is_kept, remove_rooms, sum_of_so
 from .progress import Progress
 
 NAME = "sweet-try"
-FIRST = "nothing is proved of this program, which is two to three times slower than ./sweet, the proved one"
+FIRST = "nothing is proved of this program, which is some two times slower than ./sweet, the proved one"
 BUILDS = "it is built first, which takes some minutes; after that a call takes no time of its own"
 WAITS = "another call is building it; waiting for it, to take what it builds"
 SLOWLY = "this kit makes no bitcode, so each call has rt try build and run it, some hundreds of times slower"

@@ -7,6 +7,7 @@ pub mod MadeFile
 -- commands, a file each, and their table
 pub mod Task
 pub mod LeftLines
+pub mod Legends
 pub mod Counting
 pub mod Analyse
 pub mod Print

@@ -24,5 +24,7 @@ pub mod SeenBounders
 pub mod Cache
 pub mod Generate
 pub mod Table
+-- the top of the program
+pub mod Top
 -- laws
 pub mod Laws

@@ -284,7 +284,7 @@ analyse,a.alf,--root
 analyse,a.alf,--root,-f
 analyse,a.alf,--root=
 lower,a.c,--root=
-run,a.alf,--root,a"b
+run,a.alf,--root,a\"b
 check,a.alf,r.txt,--root,a\\b
 worst,a.alf,--root,\x7f
 cache,a,--sets,2,--ways,2,--line,32,--penalty,9,--root,\x1f

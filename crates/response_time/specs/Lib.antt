@@ -3,4 +3,7 @@ pub mod Responses
 pub mod ResponseLaws
 pub mod Schedules
 pub mod ScheduleLaws
+pub mod Events
+pub mod EventLaws
+pub mod Worked
 pub mod Shares

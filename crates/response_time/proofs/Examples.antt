@@ -8,7 +8,7 @@ use Rattle.response_time.specs.Responses.{IsResponse, AreResponses, IsFirstLate}
 use Rattle.response_time.specs.Schedules.{Job, State, Event, Release, Run, Idle, IsStep, Schedule, begins, empty_state, after_a_unit}
 use Rattle.response_time.specs.Events.{GoesOn}
 use Rattle.response_time.specs.Shares.{IsCrowdedOut}
-use Rattle.response_time.specs.Worked.{numbered, three, nine, two, later_first, shorter, near_full, least}
+use Rattle.response_time.specs.Worked.{numbered, due_at, three, nine, two, later_first, near_full, least}
 use Rattle.response_time.proofs.Allowed.{is_released, is_run, is_idle}
 use Rattle.response_time.proofs.Crowding.{crowded_late}
 use Rattle.response_time.proofs.Playing.{release, run, runs}
@@ -146,52 +146,50 @@ none_runs goes = let work : 0 < 0 = (is_run two (Release 1 1 ∷ []) 0 goes).wor
 -- ---- response times
 
 module _ (last : ℕ) where
-  -- three tasks of which the last is due then
-  abbrev tasks_due : List Task
-  tasks_due = numbered 133 400 400 1 ∷ numbered 531 2000 1500 2 ∷ numbered 307 3000 last 3 ∷ []
-
-  highest_time : IsResponse tasks_due (numbered 133 400 400 1) 133
+  highest_time : IsResponse (due_at last) (numbered 133 400 400 1) 133
   highest_time =
       let task = numbered 133 400 400 1 in
-      found tasks_due task 133 (first tasks_due task (omega arith)) (omega arith) refl
+      found (due_at last) task 133 (first (due_at last) task (omega arith)) (omega arith) refl
 
-  middle_time : IsResponse tasks_due (numbered 531 2000 1500 2) 797
+  middle_time : IsResponse (due_at last) (numbered 531 2000 1500 2) 797
   middle_time =
       let task = numbered 531 2000 1500 2 in
-      let c0 = first tasks_due task (omega arith) in
-      let c1 = next tasks_due task 531 c0 797 refl in
-      found tasks_due task 797 c1 (omega arith) refl
+      let c0 = first (due_at last) task (omega arith) in
+      let c1 = next (due_at last) task 531 c0 797 refl in
+      found (due_at last) task 797 c1 (omega arith) refl
 
-  lowest_near : IsCandidate tasks_due (numbered 307 3000 last 3) 1237
+  lowest_near : IsCandidate (due_at last) (numbered 307 3000 last 3) 1237
   lowest_near =
       let task = numbered 307 3000 last 3 in
-      let c0 = first tasks_due task (omega arith) in
-      let c1 = next tasks_due task 307 c0 971 refl in
-      next tasks_due task 971 c1 1237 refl
+      let c0 = first (due_at last) task (omega arith) in
+      let c1 = next (due_at last) task 307 c0 971 refl in
+      next (due_at last) task 971 c1 1237 refl
 
-pub times : AreResponses three (133 ∷ 797 ∷ 1370 ∷ [])
-times = record { one_each = refl; each = each_time }
-  where
-    each_time : (i : ℕ) (task : Task) → IsTask three i task → IsResponse three task (slice_index (133 ∷ 797 ∷ 1370 ∷ []) i)
-    each_time zero task is = let same : numbered 133 400 400 1 ≡ task = cc in subst (λ (t : Task). IsResponse three t 133) same (highest_time 3000)
-    each_time (suc zero) task is = let same : numbered 531 2000 1500 2 ≡ task = cc in subst (λ (t : Task). IsResponse three t 797) same (middle_time 3000)
-    each_time (suc (suc zero)) task is =
-        let same : numbered 307 3000 3000 3 ≡ task = cc in
-        let lowest = numbered 307 3000 3000 3 in
-        subst (λ (t : Task). IsResponse three t 1370) same (found three lowest 1370 (next three lowest 1237 (lowest_near 3000) 1370 refl) (omega arith) refl)
-    each_time (suc (suc (suc i))) task is = absurd (cc)
+  lowest_time : 1370 ≤ last → IsResponse (due_at last) (numbered 307 3000 last 3) 1370
+  lowest_time due =
+      let task = numbered 307 3000 last 3 in
+      found (due_at last) task 1370 (next (due_at last) task 1237 lowest_near 1370 refl) due refl
 
-pub late : IsFirstLate shorter 2
+  pub times : 1370 ≤ last → AreResponses (due_at last) (133 ∷ 797 ∷ 1370 ∷ [])
+  times due = record { one_each = refl; each = each_time }
+    where
+      each_time : (i : ℕ) (task : Task) → IsTask (due_at last) i task → IsResponse (due_at last) task (slice_index (133 ∷ 797 ∷ 1370 ∷ []) i)
+      each_time zero task is = let same : numbered 133 400 400 1 ≡ task = cc in subst (λ (t : Task). IsResponse (due_at last) t 133) same highest_time
+      each_time (suc zero) task is = let same : numbered 531 2000 1500 2 ≡ task = cc in subst (λ (t : Task). IsResponse (due_at last) t 797) same middle_time
+      each_time (suc (suc zero)) task is = let same : numbered 307 3000 last 3 ≡ task = cc in subst (λ (t : Task). IsResponse (due_at last) t 1370) same (lowest_time due)
+      each_time (suc (suc (suc i))) task is = absurd (cc)
+
+pub late : IsFirstLate (due_at 1369) 2
 late = record {
   task = numbered 307 3000 1369 3;
   is = refl;
-  late = next_past shorter (numbered 307 3000 1369 3) 1237 (lowest_near 1369) (omega arith);
+  late = next_past (due_at 1369) (numbered 307 3000 1369 3) 1237 (lowest_near 1369) (omega arith);
   earlier = earlier_time;
 }
   where
-    earlier_time : (k : ℕ) (other : Task) → k < 2 → IsTask shorter k other → (time : ℕ) × IsResponse shorter other time
-    earlier_time zero other less is = let same : numbered 133 400 400 1 ≡ other = cc in (133, subst (λ (t : Task). IsResponse shorter t 133) same (highest_time 1369))
-    earlier_time (suc zero) other less is = let same : numbered 531 2000 1500 2 ≡ other = cc in (797, subst (λ (t : Task). IsResponse shorter t 797) same (middle_time 1369))
+    earlier_time : (k : ℕ) (other : Task) → k < 2 → IsTask (due_at 1369) k other → (time : ℕ) × IsResponse (due_at 1369) other time
+    earlier_time zero other less is = let same : numbered 133 400 400 1 ≡ other = cc in (133, subst (λ (t : Task). IsResponse (due_at 1369) t 133) same (highest_time 1369))
+    earlier_time (suc zero) other less is = let same : numbered 531 2000 1500 2 ≡ other = cc in (797, subst (λ (t : Task). IsResponse (due_at 1369) t 797) same (middle_time 1369))
     earlier_time (suc (suc k)) other less is = absurd (omega arith)
 
 -- ---- near full load

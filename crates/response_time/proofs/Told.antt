@@ -150,7 +150,7 @@ module _ (tasks : List Task) (events : List Event) (state : State) (sound : IsSo
 -- ---- the last releases
 
 -- what stands in a list after a write is what was written there, or stood there
-write_cases : {X : Type 0} (xs : List X) (i k : ℕ) (x y : X) → slice_get (set xs i x) k ≡ Some y
+pub write_cases : {X : Type 0} (xs : List X) (i k : ℕ) (x y : X) → slice_get (set xs i x) k ≡ Some y
     → ((k ≡ i) × (x ≡ y)) ⊎ (slice_get xs k ≡ Some y)
 write_cases [] i k x y is = inr is
 write_cases (z ∷ xs) zero zero x y is = inl (refl, cc)

@@ -5,5 +5,6 @@ pub mod Schedules
 pub mod ScheduleLaws
 pub mod Events
 pub mod EventLaws
+pub mod ReachLaws
 pub mod Worked
 pub mod Shares

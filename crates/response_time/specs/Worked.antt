@@ -1,10 +1,10 @@
 -- Task sets and lists of events that are worked out.
 --   numbered cost period deadline priority     a task with these numbers
---   three                  the tasks of examples/tasks.toml
+--   due_at deadline        the tasks of examples/tasks.toml, the last with this deadline
+--   three                  as they are there
 --   nine                   each of them is released once, with less than its cost, the lowest first; nine units follow, the highest first
 --   two                    two tasks of cost 1, one each 2 units and one each 3
 --   later_first            two jobs of task 0 are pending, the later before the earlier
---   shorter                the tasks of examples/tasks.toml, where the last is due a unit before its response time
 --   near_full, least       six tasks that leave 9 in 10 ^ 14 of the processor, and one more of cost 1
 use Rattle.std.specs.Prelude.{ℕ, List, [], ◌∷◌, None, Some}
 use Rattle.cost_table.specs.declared.task_set.Task.{Task}
@@ -14,9 +14,13 @@ use Rattle.response_time.specs.Schedules.{State, Event, Release, Run}
 abbrev pub numbered : ℕ → ℕ → ℕ → ℕ → Task
 numbered cost period deadline priority = record { name = []; cost = cost; period = period; deadline = deadline; priority = priority }
 
--- the tasks of examples/tasks.toml
+-- the tasks of examples/tasks.toml, the last with this deadline
+abbrev pub due_at : ℕ → List Task
+due_at deadline = numbered 133 400 400 1 ∷ numbered 531 2000 1500 2 ∷ numbered 307 3000 deadline 3 ∷ []
+
+-- as they are there
 abbrev pub three : List Task
-three = numbered 133 400 400 1 ∷ numbered 531 2000 1500 2 ∷ numbered 307 3000 3000 3 ∷ []
+three = due_at 3000
 
 -- the lowest priority begins, the next interrupts it, and the highest interrupts that
 abbrev pub nine : List Event
@@ -33,10 +37,6 @@ later_first = record {
   pending = record { task = 0; release = 2; left = 1 } ∷ record { task = 0; release = 0; left = 1 } ∷ [];
   last = Some 2 ∷ None ∷ [];
 }
-
--- the last task is due a unit before its response time
-abbrev pub shorter : List Task
-shorter = numbered 133 400 400 1 ∷ numbered 531 2000 1500 2 ∷ numbered 307 3000 1369 3 ∷ []
 
 -- one unit of work each 4294967295 units, below all others
 abbrev pub least : Task

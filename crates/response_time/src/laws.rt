@@ -5,6 +5,7 @@ ghost use Rattle.response_time.specs.ScheduleLaws.{FinishInTime, AllFinishInTime
 ghost use Rattle.response_time.specs.EventLaws.{JobsMayBeReleased, NoOtherIsReleased, TheHighestMayRun, NoOtherRuns};
 ghost use Rattle.response_time.specs.EventLaws.{ItMayIdle, ItIdlesWithoutWork, AllowedEventsAreSchedules};
 ghost use Rattle.response_time.specs.EventLaws.{WorkIsDoneInTime};
+ghost use Rattle.response_time.specs.ReachLaws.{TimesAreReached, NoSmallerTimesHold, LateTasksMissTheirDeadlines};
 
 /// A task set has one answer: one list of response times, or one first task that is late.
 pub fn a_task_set_has_one_answer()
@@ -52,4 +53,13 @@ pub fn the_processor_idles_without_work()
 /// A list of events is a schedule of the tasks exactly where each event may come after those before it.
 pub fn allowed_events_are_schedules()
     ensures { AllowedEventsAreSchedules }
+{}
+
+/// Where all tasks are released at once with their whole costs, and each again after each of its periods,
+/// a job is pending at each time before the response time of its task, and at the deadline of a task that
+/// is late. So no smaller times hold of all schedules, and no other verdict is right.
+pub fn response_times_are_reached()
+    ensures reached { TimesAreReached }
+    ensures least { NoSmallerTimesHold }
+    ensures late { LateTasksMissTheirDeadlines }
 {}

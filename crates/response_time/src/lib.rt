@@ -22,7 +22,7 @@ pub use answers::respond;
 pub use fault::RespondFault;
 pub use laws::{
     a_job_may_be_released, a_task_set_has_one_answer, allowed_events_are_schedules,
-    every_job_finishes_in_its_response_time, the_highest_priority_runs,
+    every_job_finishes_in_its_response_time, response_times_are_reached, the_highest_priority_runs,
     the_processor_idles_without_work, time_goes_on,
 };
 pub use worked::{

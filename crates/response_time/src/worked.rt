@@ -5,7 +5,7 @@ ghost use Rattle.response_time.specs.Responses.{interference, demand, AreRespons
 ghost use Rattle.response_time.specs.Schedules.{Release, Run, Idle, Schedule, IsStep};
 ghost use Rattle.response_time.specs.Events.{GoesOn, units, released, done};
 ghost use Rattle.response_time.specs.Shares.{IsCrowdedOut};
-ghost use Rattle.response_time.specs.Worked.{numbered, three, nine, two, later_first, shorter, near_full, least};
+ghost use Rattle.response_time.specs.Worked.{numbered, due_at, three, nine, two, later_first, near_full, least};
 
 /// A job of the lowest priority that began first is interrupted by each higher one. After nine units it
 /// has one left, and after ten it is pending no more.
@@ -42,7 +42,7 @@ pub fn the_higher_and_the_earlier_run_first()
 {}
 
 /// In 797 units the first of three tasks brings two jobs to the second, and no lower one brings any. The
-/// times are 133, 797 and 1370; with a deadline that is a unit shorter the third is late.
+/// times are 133, 797 and 1370. The third is in time where it is due then, and late a unit earlier.
 pub fn three_tasks_have_these_times()
     ensures twice { interference 2 797 (numbered 133 400 400 1) ≡ 266 }
     ensures whole { interference 3 800 (numbered 133 400 400 1) ≡ 266 }
@@ -51,7 +51,8 @@ pub fn three_tasks_have_these_times()
     ensures itself { interference 2 797 (numbered 531 2000 1500 2) ≡ 0 }
     ensures demand { demand three (numbered 307 3000 3000 3) 971 ≡ 1237 }
     ensures times { AreResponses three (133 ∷ 797 ∷ 1370 ∷ []) }
-    ensures late { IsFirstLate shorter 2 }
+    ensures in_time { AreResponses (due_at 1370) (133 ∷ 797 ∷ 1370 ∷ []) }
+    ensures late { IsFirstLate (due_at 1369) 2 }
 {}
 
 /// Where tasks of higher priority leave so little that one unit of work does not fit into the greatest

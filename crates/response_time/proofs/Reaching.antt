@@ -1,25 +1,25 @@
 -- Some schedule takes as long as the response time: all tasks are released at once, and each again after each of its periods.
-use Rattle.std.proofs.Common.{◌≡◌, ◌<◌, ◌≤◌, ◌+◌, ◌*◌, ◌/◌, ◌%◌, ℕ, zero, suc, Bool, true, false, cond, List, [], ◌∷◌, ◌++◌, Option, Some, length, min, slice_get, slice_index, get_or, Contains, inl, inr, refl, sym, ap, ◌∙◌, subst, append_assoc, append-nil, arith}
+use Rattle.std.proofs.Common.{◌≡◌, ◌<◌, ◌≤◌, ◌+◌, ◌*◌, ◌/◌, ◌%◌, ℕ, zero, suc, Bool, true, cond, List, [], ◌∷◌, ◌++◌, Option, Some, length, slice_get, slice_index, get_or, inl, inr, refl, sym, ap, ◌∙◌, subst, append_assoc, append-nil, arith}
 use Rattle.std.proofs.Math.Nat.{mul-le-mul_left, mul-le-mul_right, lt_of_mul-lt-mul_right, zero-mod, zero-div}
 use Rattle.std.proofs.lemmas.Bool.{cases_lt, cases_eq, eqb-true, eqb-false, eq-eqb, ne_eqb, leb-true, le-leb, lt-ltb, le-ltb}
 use Rattle.std.proofs.lemmas.Grind.{div_ceil_times}
-use Rattle.std.proofs.lemmas.List.Elements.{All-head, All-tail, All-cons, All-nil, All-append, All-weaker, All-contains, Contains-get_or, Contains-append_left}
+use Rattle.std.proofs.lemmas.List.Elements.{All-head, All-tail, All-append, All-weaker, All-contains, Contains-get_or}
 use Rattle.std.proofs.lemmas.List.Sums.{sum_by-cons, sum_by-append, sum_by-le-sum_by}
 use Rattle.std.proofs.lemmas.Nat.{div-add-mod', mod_below}
-use Rattle.std.specs.Bool.{nat_eq, nat_le, nat_lt}
+use Rattle.std.specs.Bool.{nat_eq, nat_le}
 use Rattle.std.specs.Int.{div_ceil}
 use Rattle.std.specs.List.{All, sum_by}
 use Rattle.lists.specs.TestLaws.{by_test}
 use Rattle.cost_table.specs.declared.task_set.Task.{Task}
 use Rattle.cost_table.specs.Tasks.{AreTasks, IsInRange, IsTask, priority_of}
-use Rattle.response_time.specs.Responses.{demand, interference, IsSolution, IsResponse, IsLate}
-use Rattle.response_time.specs.Schedules.{Job, State, Event, Release, Run, Idle, IsReleased, IsRun, IsIdled, IsStep, Schedule, begins, goes_on, empty_state}
+use Rattle.response_time.specs.Responses.{demand, IsSolution}
+use Rattle.response_time.specs.Schedules.{Job, State, Event, Release, Run, Idle, IsRun, IsStep, Schedule, begins, goes_on, empty_state}
 use Rattle.response_time.specs.ReachLaws.{all_released, StaysFor, TimesAreReached, LateTasksMissTheirDeadlines, NoSmallerTimesHold}
 use Rattle.response_time.proofs.Backlog.{backlog, no_backlog, run_keeps}
-use Rattle.response_time.proofs.Filling.{due_events, due_jobs, all_due, IsFilled, AreRested, filled, IsDueJob, are_due, due_backlog, due_left}
+use Rattle.response_time.proofs.Filling.{due_events, due_jobs, all_due, filled, IsDueJob, are_due, due_backlog, due_left}
 use Rattle.response_time.proofs.Going.{time_goes_on}
 use Rattle.response_time.proofs.Once.{task_there}
-use Rattle.response_time.proofs.Priorities.{counted, counts, counts_not, range_of, priority_is, alone, higher, as_high}
+use Rattle.response_time.proofs.Priorities.{counted, counts, range_of, priority_is, alone, higher, as_high}
 use Rattle.response_time.proofs.Rounding.{no_unit_more, demand_rises}
 use Rattle.response_time.proofs.Sound.{sound, none_released}
 use Rattle.response_time.proofs.WorkLeft.{left_of, part, is_of, left_run}

@@ -9,4 +9,3 @@ pub mod Held
 pub mod MemoryShelf
 pub mod MemorySink
 pub mod Sure
-pub mod Folder

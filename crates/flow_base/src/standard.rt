@@ -1,68 +1,45 @@
 //! The standard output.
 
-ghost use Rattle.std.specs.Prelude.{◌≡◌, ◌≤◌, None, IsErrOf};
-ghost use Rattle.flow_base.specs.Outside.{next_count};
-ghost use Rattle.flow_base.specs.Sinks.{IsWritten};
+ghost use Rattle.std.specs.Prelude.{◌≡◌, None, ⊤};
 
-use crate::streams::write_whole;
-use crate::{Sink, WriteError};
-use std::io;
-use std::marker::Model;
+use crate::refusal::once_less;
+use crate::{Output, Refusal, StreamSink};
+use std::io::{self, Write};
 
-/// Standard output. It tells nothing of what it took, and never answers want of memory. What is written goes
-/// to the system by `write_whole`, which leaves out no byte.
+/// Standard output. It tells nothing of what it took.
+pub type StdSink<'a, P> = StreamSink<StandardOutput<'a, P>>;
+
+/// The standard output of the system.
 #[derive(Drop)]
-pub struct StdSink<'a, P: Print> {
+pub struct StandardOutput<'a, P: Print> {
     runtime: &'a P,
-    writes: u64,
-    faults: u64,
+    // How often a write may still be interrupted.
+    patience: u32,
 }
 
-impl<'a, P: Print> Model for StdSink<'a, P> {
-    ghost use Rattle.std.specs.Prelude.{None};
-    ghost use Rattle.flow_base.specs.Sinks.{SinkState};
-
-    ghost Value = { SinkState };
-
-    ghost view = { λ sink. record { taken = None; writes = sink.writes; faults = sink.faults } };
-}
-
-impl<'a, P: Print> StdSink<'a, P> {
+impl<'a, P: Print> StreamSink<StandardOutput<'a, P>> {
     /// The standard output of this runtime; no write has failed. Takes no memory.
     pub fn new(runtime: &'a P) -> Self
-        ensures { result ≡ record { taken = None; writes = 0; faults = 0 } }
+        ensures { (result.writes ≡ 0) × (result.faults ≡ 0) }
     {
-        StdSink {
+        StreamSink::over(StandardOutput {
             runtime,
-            writes: 0,
-            faults: 0,
-        }
+            patience: u32::MAX,
+        })
     }
 }
 
-impl<P: Print> Sink for StdSink<'_, P> {
-    ghost state = { λ sink. sink };
+impl<P: Print> Output for StandardOutput<'_, P> {
+    ghost taken = { λ _. None };
 
-    fn faults(&self) -> u64 {
-        self.faults
-    }
+    ghost fails = { λ _. ⊤ };
 
-    fn write_all(&mut self, bytes: &[u8]) -> Result<(), WriteError>
-        ensures never_memory { IsErrOf result WriteError.Memory → ⊥ }
-        // A fault is counted exactly where a write failed.
-        ensures fault { IsErrOf result WriteError.Failed → self.new.faults ≡ next_count self.old.faults }
-        ensures no_fault { (IsErrOf result WriteError.Failed → ⊥) → self.new.faults ≡ self.old.faults }
+    ghost patience = { λ it. it.patience };
 
-        ensures answer { IsWritten bytes.now self.old result self.new }
-        ensures counted { self.new.writes ≡ next_count self.old.writes }
-        ensures later { self.old.faults ≤ self.new.faults }
-    {
-        self.writes = self.writes.saturating_add(1);
-        let mut writer = io::writer(self.runtime);
-        let written = write_whole(&mut writer, bytes);
-        if written.is_err() {
-            self.faults = self.faults.saturating_add(1);
+    fn write(&mut self, bytes: &[u8]) -> Result<usize, Refusal> {
+        match io::writer(self.runtime).write(bytes) {
+            Ok(count) => Ok(count),
+            Err(error) => Err(once_less(Refusal::of(&error), &mut self.patience)),
         }
-        written
     }
 }

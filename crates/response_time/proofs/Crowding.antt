@@ -26,15 +26,15 @@ share_within window cost period share n whole part covers =
     omega arith
 
 pub share_brought : (p window : ℕ) (other : Task) → IsInRange other
-    → window * share_of p other ≤ interference p window other * 4294967296
+    → window * share_of p other ≤ interference p window other * 79228162514264337593543950336
 share_brought p window other range =
     by_test (nat_lt other.priority p)
-    (λ e. rw e (share_within window other.cost other.period (other.cost * 4294967296 / other.period) (div_ceil window other.period) 4294967296
-    (div-mul-le_self (other.cost * 4294967296) other.period) (div_ceil_times window other.period range.period).0))
+    (λ e. rw e (share_within window other.cost other.period (other.cost * 79228162514264337593543950336 / other.period) (div_ceil window other.period) 79228162514264337593543950336
+    (div-mul-le_self (other.cost * 79228162514264337593543950336) other.period) (div_ceil_times window other.period range.period).0))
     (λ e. rw e (omega arith))
 
 pub shares_brought : (p window : ℕ) (tasks : List Task) → All IsInRange tasks
-    → window * sum_by (share_of p) tasks ≤ sum_by (interference p window) tasks * 4294967296
+    → window * sum_by (share_of p) tasks ≤ sum_by (interference p window) tasks * 79228162514264337593543950336
 shares_brought p window [] ranges = omega arith
 shares_brought p window (task ∷ tasks) ranges =
     let one = share_brought p window task (All-head IsInRange task tasks ranges) in
@@ -45,7 +45,7 @@ shares_brought p window (task ∷ tasks) ranges =
 
 -- where the shares make up the whole, there is no solution
 pub none_of_all : (tasks : List Task) (task : Task) → All IsInRange tasks → 1 ≤ task.cost
-    → 4294967296 ≤ sum_by (share_of task.priority) tasks → IsLate tasks task
+    → 79228162514264337593543950336 ≤ sum_by (share_of task.priority) tasks → IsLate tasks task
 none_of_all tasks task ranges some full time solves =
     let equal = solves.equal in
     let brought = shares_brought task.priority time tasks ranges in
@@ -54,7 +54,7 @@ none_of_all tasks task ranges some full time solves =
 
 -- and where what they leave is too little, there is none up to the deadline
 pub none_of_rest : (tasks : List Task) (task : Task) (free : ℕ) → All IsInRange tasks
-    → free + sum_by (share_of task.priority) tasks ≡ 4294967296 → task.deadline * free < task.cost * 4294967296
+    → free + sum_by (share_of task.priority) tasks ≡ 79228162514264337593543950336 → task.deadline * free < task.cost * 79228162514264337593543950336
     → IsLate tasks task
 none_of_rest tasks task free ranges rest little time solves = elim (cases_lt task.deadline time) [
   | inl late ↦ late
@@ -62,32 +62,32 @@ none_of_rest tasks task free ranges rest little time solves = elim (cases_lt tas
       let equal = solves.equal in
       let brought = shares_brought task.priority time tasks ranges in
       let part = mul-le-mul_right free due in
-      let all : time * (free + sum_by (share_of task.priority) tasks) ≡ time * 4294967296 = ap (λ (n : ℕ). time * n) rest in
+      let all : time * (free + sum_by (share_of task.priority) tasks) ≡ time * 79228162514264337593543950336 = ap (λ (n : ℕ). time * n) rest in
       absurd (omega arith)
 ]
 
 -- so a task that is crowded out is late
 pub crowded_late : (tasks : List Task) (task : Task) → All IsInRange tasks → 1 ≤ task.cost → IsCrowdedOut tasks task
     → IsLate tasks task
-crowded_late tasks task ranges some little = elim (cases_lt (sum_by (share_of task.priority) tasks) 4294967296) [
+crowded_late tasks task ranges some little = elim (cases_lt (sum_by (share_of task.priority) tasks) 79228162514264337593543950336) [
   | inr full ↦ none_of_all tasks task ranges some full
-  | inl less ↦ none_of_rest tasks task (4294967296 - sum_by (share_of task.priority) tasks) ranges (omega arith) little
+  | inl less ↦ none_of_rest tasks task (79228162514264337593543950336 - sum_by (share_of task.priority) tasks) ranges (omega arith) little
 ]
 
 -- a share that leaves nothing crowds out
 pub is_full : (tasks : List Task) (task : Task) (i free share : ℕ) (other : Task) → 1 ≤ task.cost → i < length tasks
     → other ≡ get_or tasks i other
-    → free + sum_by (share_of task.priority) (take i tasks) ≡ 4294967296 → share ≡ share_of task.priority other → free ≤ share → IsCrowdedOut tasks task
+    → free + sum_by (share_of task.priority) (take i tasks) ≡ 79228162514264337593543950336 → share ≡ share_of task.priority other → free ≤ share → IsCrowdedOut tasks task
 is_full tasks task i free share other some low there so_far is least =
     let whose : share_of task.priority other ≡ share_of task.priority (get_or tasks i other) = ap (share_of task.priority) there in
     let more = sum_by_more_le (share_of task.priority) tasks i other low in
-    let none : 4294967296 - sum_by (share_of task.priority) tasks ≡ 0 = omega arith in
+    let none : 79228162514264337593543950336 - sum_by (share_of task.priority) tasks ≡ 0 = omega arith in
     rw none (omega arith)
 
 -- what all shares leave
 pub left_by_all : (tasks : List Task) (task : Task) (i free : ℕ) → length tasks ≤ i
-    → free + sum_by (share_of task.priority) (take i tasks) ≡ 4294967296
-    → free ≡ 4294967296 - sum_by (share_of task.priority) tasks
+    → free + sum_by (share_of task.priority) (take i tasks) ≡ 79228162514264337593543950336
+    → free ≡ 79228162514264337593543950336 - sum_by (share_of task.priority) tasks
 left_by_all tasks task i free over so_far =
     let all : sum_by (share_of task.priority) (take i tasks) ≡ sum_by (share_of task.priority) tasks = ap (sum_by (share_of task.priority)) (take_all i tasks over) in
     omega arith

@@ -1,80 +1,43 @@
 -- In each state time can pass: a job of the highest priority that is pending runs, the earliest of these.
-use Rattle.std.proofs.Common.{◌≡◌, ◌≤◌, ◌+◌, List, [], ◌∷◌, ◌++◌, inl, inr, refl, sym, ap, subst, arith}
-use Rattle.std.proofs.lemmas.Bool.{cases_order, cases_lt}
-use Rattle.std.proofs.lemmas.List.Elements.{All-cons, All-weaker, All-nil}
+use Rattle.std.proofs.Common.{◌≡◌, ◌≤◌, ◌+◌, ℕ, List, [], ◌∷◌, ◌++◌, refl, sym, ap, subst}
+use Rattle.std.proofs.lemmas.List.Elements.{All-weaker}
 use Rattle.std.specs.List.{All}
 use Rattle.cost_table.specs.declared.task_set.Task.{Task}
 use Rattle.cost_table.specs.Tasks.{priority_of}
-use Rattle.response_time.specs.Schedules.{Job, State, Run, Idle, after_a_unit}
+use Rattle.response_time.specs.Schedules.{Job, State, Run, Idle, IsRun, after_a_unit}
 use Rattle.response_time.specs.ScheduleLaws.{TimePasses}
+use Rattle.response_time.proofs.First.{Precedes, First, first_of}
 
 module _ (tasks : List Task) where
-  -- the one job comes before the other: by priority, and then by release
-  pub record Precedes (one other : Job) : Type 0 where
-    pub higher : priority_of tasks one.task ≤ priority_of tasks other.task
-    pub earlier : priority_of tasks other.task ≡ priority_of tasks one.task → one.release ≤ other.release
-
-  -- a job that comes before all, with what stands in the list before and after it
-  pub record First (jobs : List Job) : Type 0 where
-    pub front : List Job
-    pub job : Job
-    pub rest : List Job
-    pub is : jobs ≡ front ++ job ∷ rest
-    pub first : All (Precedes job) jobs
-
-  itself : (job : Job) → Precedes job job
-  itself job = record { higher = omega arith; earlier = λ e. omega arith }
-
-  before : (a b c : Job) → Precedes a b → Precedes b c → Precedes a c
-  before a b c p q = record {
-    higher = let ab = p.higher in let bc = q.higher in omega arith;
-    earlier = λ e.
-        let ab = p.higher in
-        let bc = q.higher in
-        let one = p.earlier (omega arith) in
-        let two = q.earlier (omega arith) in
-        omega arith;
+  -- a job may run that is first by a rank which all jobs of its task share, where its priority is the highest
+  pub run_of : (rank : Job → ℕ) (state : State) (f : First rank state.pending)
+      → ((j : Job) → j.task ≡ f.job.task → rank j ≡ rank f.job)
+      → All (λ j. priority_of tasks f.job.task ≤ priority_of tasks j.task) state.pending
+      → IsRun tasks state f.job.task (record { time = state.time + 1; pending = f.front ++ after_a_unit f.job ++ f.rest; last = state.last })
+  run_of rank state f same highest = record {
+    front = f.front;
+    job = f.job;
+    rest = f.rest;
+    is = f.is;
+    of_task = refl;
+    earliest = All-weaker (Precedes rank f.job) (λ (j : Job). j.task ≡ f.job.task → f.job.release ≤ j.release) (λ j p e. p.earlier (same j e)) state.pending f.first;
+    highest = highest;
+    time = refl;
+    pending = refl;
+    last = refl;
   }
 
-  -- a job heads the list, or a later one does
-  with_one : (x : Job) (jobs : List Job) (f : First jobs) → Precedes x f.job → First (x ∷ jobs)
-  with_one x jobs f p = record { front = []; job = x; rest = jobs; is = refl; first = All-cons (Precedes x) x jobs (itself x) (All-weaker (Precedes f.job) (Precedes x) (λ y q. before x f.job y p q) jobs f.first) }
-
-  past_one : (x : Job) (jobs : List Job) (f : First jobs) → Precedes f.job x → First (x ∷ jobs)
-  past_one x jobs f p = record { front = x ∷ f.front; job = f.job; rest = f.rest; is = ap (λ (js : List Job). x ∷ js) f.is; first = All-cons (Precedes f.job) x jobs p f.first }
-
-  -- a list that is not empty has one
-  first_of : (x : Job) (jobs : List Job) → First (x ∷ jobs)
-  first_of x [] = record { front = []; job = x; rest = []; is = refl; first = All-cons (Precedes x) x [] (itself x) (All-nil (Precedes x)) }
-  first_of x (y ∷ jobs) =
-      let f = first_of y jobs in
-      elim (cases_order (priority_of tasks x.task) (priority_of tasks f.job.task)) [
-        | inr (inl less) ↦ with_one x (y ∷ jobs) f (record { higher = omega arith; earlier = λ e. absurd (omega arith) })
-        | inr (inr more) ↦ past_one x (y ∷ jobs) f (record { higher = omega arith; earlier = λ e. absurd (omega arith) })
-        | inl same ↦ elim (cases_lt x.release f.job.release) [
-          | inl less ↦ with_one x (y ∷ jobs) f (record { higher = omega arith; earlier = λ e. omega arith })
-          | inr more ↦ past_one x (y ∷ jobs) f (record { higher = omega arith; earlier = λ e. more })
-        ]
-      ]
-
-  runs : (state : State) → First state.pending → TimePasses tasks state
-  runs state f = record {
-    event = Run f.job.task;
-    next = record { time = state.time + 1; pending = f.front ++ after_a_unit f.job ++ f.rest; last = state.last };
-    step = record {
-      front = f.front;
-      job = f.job;
-      rest = f.rest;
-      is = f.is;
-      of_task = refl;
-      earliest = All-weaker (Precedes f.job) (λ (j : Job). j.task ≡ f.job.task → f.job.release ≤ j.release) (λ j p e. p.earlier (ap (priority_of tasks) e)) state.pending f.first;
-      highest = All-weaker (Precedes f.job) (λ (j : Job). priority_of tasks f.job.task ≤ priority_of tasks j.task) (λ j p. p.higher) state.pending f.first;
-      time = refl;
-      pending = refl;
-      last = refl;
-    };
-    later = refl;
-  }
+  -- a job of the highest priority does
+  runs : (state : State) → First (λ job. priority_of tasks job.task) state.pending → TimePasses tasks state
+  runs state f =
+      let rank = λ (job : Job). priority_of tasks job.task in
+      record {
+        event = Run f.job.task;
+        next = record { time = state.time + 1; pending = f.front ++ after_a_unit f.job ++ f.rest; last = state.last };
+        step = run_of rank state f (λ j e. ap (priority_of tasks) e)
+            (All-weaker (Precedes rank f.job) (λ (j : Job). priority_of tasks f.job.task ≤ priority_of tasks j.task) (λ j p. p.higher) state.pending f.first);
+        later = refl;
+      }
 
   passes : (state : State) (jobs : List Job) → state.pending ≡ jobs → TimePasses tasks state
   passes state [] none = record {
@@ -83,7 +46,9 @@ module _ (tasks : List Task) where
     step = record { none = none; time = refl; pending = refl; last = refl };
     later = refl;
   }
-  passes state (x ∷ jobs) some = runs state (subst First (sym some) (first_of x jobs))
+  passes state (x ∷ jobs) some =
+      let rank = λ (job : Job). priority_of tasks job.task in
+      runs state (subst (First rank) (sym some) (first_of rank x jobs))
 
   pub time_goes_on : (state : State) → TimePasses tasks state
   time_goes_on state = passes state state.pending refl

@@ -25,7 +25,7 @@ set_cases (z ∷ xs) (suc i) zero x y is = inr is
 set_cases (z ∷ xs) (suc i) (suc k) x y is = set_cases xs i k x y is
 
 -- before any release none was
-none_released : (n k before : ℕ) → let none : Option ℕ = None in slice_get (replicate n none) k ≡ Some (Some before) → ⊥
+pub none_released : (n k before : ℕ) → let none : Option ℕ = None in slice_get (replicate n none) k ≡ Some (Some before) → ⊥
 none_released zero k before is = cc
 none_released (suc n) zero before is = cc
 none_released (suc n) (suc k) before is = none_released n k before is

@@ -3,4 +3,8 @@ pub mod Responses
 pub mod ResponseLaws
 pub mod Schedules
 pub mod ScheduleLaws
+pub mod Events
+pub mod EventLaws
+pub mod ReachLaws
+pub mod Worked
 pub mod Shares

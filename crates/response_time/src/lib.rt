@@ -16,7 +16,17 @@ mod shares;
 // What others call.
 mod answers;
 mod laws;
+mod worked;
 
 pub use answers::respond;
 pub use fault::RespondFault;
-pub use laws::{a_task_set_has_one_answer, every_job_finishes_in_its_response_time, time_goes_on};
+pub use laws::{
+    a_job_may_be_released, a_task_set_has_one_answer, allowed_events_are_schedules,
+    every_job_finishes_in_its_response_time, response_times_are_reached, the_highest_priority_runs,
+    the_processor_idles_without_work, time_goes_on,
+};
+pub use worked::{
+    a_job_is_pending_until_its_work_is_done, releases_are_a_period_apart,
+    the_higher_and_the_earlier_run_first, three_tasks_have_these_times,
+    what_is_left_may_be_too_little,
+};

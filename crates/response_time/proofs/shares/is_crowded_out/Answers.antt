@@ -12,10 +12,10 @@ is_too_little-requires c = let rest = c.loop-other.invariant.0 in omega arith
 
 pub returns-clause-yes : goal.returns-clause-yes
 returns-clause-yes c = λ yes.
-    subst (λ (n : ℕ). c.args.task.now.deadline * n < c.args.task.now.cost * 4294967296)
+    subst (λ (n : ℕ). c.args.task.now.deadline * n < c.args.task.now.cost * 79228162514264337593543950336)
     (left_by_all c.args.tasks.now c.args.task.now _ c.loop-other.free c.loop-other-test.false c.loop-other.invariant.0) (c.is_too_little.ensures.0 yes)
 
 pub returns-clause-only : goal.returns-clause-only
 returns-clause-only c = λ little.
     let free = left_by_all c.args.tasks.now c.args.task.now _ c.loop-other.free c.loop-other-test.false c.loop-other.invariant.0 in
-    c.is_too_little.ensures.1 (subst (λ (n : ℕ). c.args.task.now.deadline * n < c.args.task.now.cost * 4294967296) (sym free) little)
+    c.is_too_little.ensures.1 (subst (λ (n : ℕ). c.args.task.now.deadline * n < c.args.task.now.cost * 79228162514264337593543950336) (sym free) little)

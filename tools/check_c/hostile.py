@@ -189,8 +189,10 @@ def stopped(number: signal.Signals, room: pathlib.Path) -> str:
     with tempfile.TemporaryDirectory(dir=room) as folder, tempfile.TemporaryDirectory(dir=room) as temporary:
         laid_out({"in.c": '#include "pipe"\n'}, pathlib.Path(folder))
         os.mkfifo(pathlib.Path(folder, "pipe"))
+        # A caller in the background may ignore the signal, and so would what it calls.
         begun = subprocess.Popen(words_of("in.c", "-o", "out.c"), cwd=folder, stderr=subprocess.PIPE,
-                                 env={**os.environ, "TMPDIR": temporary})
+                                 env={**os.environ, "TMPDIR": temporary},
+                                 preexec_fn=lambda: signal.signal(number, signal.SIG_DFL))
         while begun.poll() is None and not working(temporary):
             time.sleep(0.02)
         begun.send_signal(number)

@@ -13,8 +13,8 @@ STREAMS = (stat.S_ISFIFO, stat.S_ISCHR, stat.S_ISSOCK)
 
 
 def write(page: bytes, out: str, words: list[str]) -> bool:
-    """Whether the page stands in a file of this name, and did not go on by standard output or by another stream. No file
-    that one of the words names is written over."""
+    """Whether the page stands in a file of this name, and did not go on by standard output or by another stream. No
+    file that one of the words names is written over."""
     try:
         found = None if out == "-" else os.stat(out)
         if found is None or is_output(found):

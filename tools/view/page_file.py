@@ -68,11 +68,8 @@ def give_name(name: str, out: str, words: list[str]) -> None:
     """A link is made only where nothing is; what came since it was looked at is looked at, too."""
     try:
         os.link(name, out, follow_symlinks=False)
-    except FileExistsError:
-        hold(out, words)
-        os.replace(name, out)
     except OSError:
-        # There are file systems without links.
+        # Something is there, or the file system has no links.
         hold(out, words)
         os.replace(name, out)
 

@@ -1,1 +1,2 @@
-"""What tools/check-view holds the viewer with: programs by chance, spoilt texts, and what a page must be."""
+"""What tools/check-view and tools/check-page hold the viewer with: programs by chance, spoilt texts and pages, hostile
+names, a browser, and what a page must be."""

@@ -136,8 +136,8 @@ class Browser:
         return answer["result"].get("value")
 
     def use(self, places: list[list[float]], keys: collections.abc.Iterable[str]) -> None:
-        """Moves the mouse to places, clicks at two of three, and presses keys. Only what all of it led to is waited for:
-        a machine may be busy."""
+        """Moves the mouse to places, clicks at two of three, and presses keys. Only what all of it led to is waited
+        for: a machine may be busy."""
         told = []
         for number, (x, y) in enumerate(places):
             told.append(self.tell("Input.dispatchMouseEvent", type="mouseMoved", x=x, y=y))

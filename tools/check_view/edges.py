@@ -1,4 +1,4 @@
-"""What `./sweet-view` must do at its edges: what it reads and writes over, what it tells on standard error, its status."""
+"""What `./sweet-view` must do at its edges: what it reads and writes over, what it tells, and its status."""
 
 import collections.abc
 import contextlib
@@ -40,8 +40,8 @@ class Edges:
 
     def call(self, *words: str | bytes, **given: object) -> Ran:
         self.calls += 1
-        ran = subprocess.run([*VIEWER, *words], cwd=self.room, stdin=subprocess.DEVNULL, stderr=subprocess.PIPE,
-                             timeout=SECONDS, **{"stdout": subprocess.PIPE, **given})
+        given = {"stdout": subprocess.PIPE, "stderr": subprocess.PIPE, "stdin": subprocess.DEVNULL, **given}
+        ran = subprocess.run([*VIEWER, *words], cwd=self.room, timeout=SECONDS, **given)
         return Ran(ran.returncode, ran.stdout or b"", ran.stderr.decode("utf-8", "backslashreplace"))
 
     def want(self, what: str, ran: Ran, status: int, *words: str) -> None:
@@ -116,14 +116,15 @@ class Edges:
         (self.room / "zero.c").symlink_to("/dev/zero")
         (self.room / "large.c").write_bytes(b" " * 1_048_577)
         (self.room / "folder.c").mkdir()
-        told = {"pipe.c": "regular", "zero.c": "regular", "large.c": "1,048,576", "folder.c": "regular", "none.c": "No such"}
+        told = {"pipe.c": "regular", "zero.c": "regular", "large.c": "1,048,576", "folder.c": "regular"}
+        told |= {"none.c": "No such"}
         for name, words in told.items():
             self.want(f"FILE {name}", self.call(name), 2, name, words)
             self.hold(f"FILE {name} has a page", not (self.room / name).with_suffix(".html").exists())
         self.want("no FILE", self.call("--turns", "5"), 2, "FILE")
 
     def named_files(self) -> None:
-        """What the head of a text names is read where it stands beside the text, as it was, and nothing else is told."""
+        """What the head of a text names is read where it stands beside the text as it was, and no more is told."""
         folder = self.room / "other"
         folder.mkdir()
         told = set()
@@ -203,8 +204,9 @@ class Edges:
         stub.chmod(0o755)
         before = sorted(os.listdir(self.room))
         for number in (signal.SIGTERM, signal.SIGINT, signal.SIGHUP):
-            words = {"cwd": self.room, "stdin": subprocess.DEVNULL, "stdout": subprocess.DEVNULL, "stderr": subprocess.PIPE}
-            process = subprocess.Popen([*VIEWER, "x.c"], env={**os.environ, "SWEET": str(stub)}, **words)
+            given = {"cwd": self.room, "env": {**os.environ, "SWEET": str(stub)}, "stdin": subprocess.DEVNULL}
+            given |= {"stdout": subprocess.DEVNULL, "stderr": subprocess.PIPE}
+            process = subprocess.Popen([*VIEWER, "x.c"], **given)
             for _ in range(10 * SECONDS):
                 if begun.exists():
                     break

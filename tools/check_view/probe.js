@@ -23,9 +23,9 @@ function skeleton() {
   });
 }
 
-// The places of elements that can be pointed at, those of each kind first. The window is so high that nothing is scrolled.
+// The places of elements that can be pointed at, those of each kind first. Nothing is scrolled in so high a window.
 function places(most) {
-  const all = [...document.querySelectorAll("[data-n], summary, #sel td")].filter(it => it.localName !== "select");
+  const all = [...document.querySelectorAll("[data-n], summary, #sel td")];
   const kindOf = it => it.localName + it.classList[0] + it.closest("section, aside, header")?.id;
   const kinds = new Set(all.map(kindOf));
   const firsts = [...kinds].flatMap(kind => all.filter(it => kindOf(it) === kind).slice(0, 3));
@@ -77,13 +77,15 @@ function parts() {
 
 // -- contrasts
 
-const numbersIn = text => (text.match(/rgba?\(([^)]*)\)/) || ["", "0,0,0,0"])[1].split(/[ ,/]+/).map(Number);
+const colourIn = text => (text.match(/rgba?\(([^)]*)\)/) || ["", "0,0,0,0"])[1];
+const numbersIn = text => colourIn(text).split(/[ ,/]+/).map(Number);
 const over = (top, under) => {
   const [red, green, blue, alpha = 1] = top;
   return [red, green, blue].map((it, at) => it * alpha + under[at] * (1 - alpha));
 };
+const linear = part => (part <= 0.04045 ? part / 12.92 : ((part + 0.055) / 1.055) ** 2.4);
 const light = colour => {
-  const [red, green, blue] = colour.map(it => it / 255).map(it => (it <= 0.04045 ? it / 12.92 : ((it + 0.055) / 1.055) ** 2.4));
+  const [red, green, blue] = colour.map(it => linear(it / 255));
   return 0.2126 * red + 0.7152 * green + 0.0722 * blue;
 };
 
@@ -103,8 +105,20 @@ function drawn(text) {
     const box = it.getBoundingClientRect();
     return box.left <= x && x <= box.right && box.top <= y && y <= box.bottom;
   };
-  const boxes = [...text.ownerSVGElement.querySelectorAll("rect.scope"), ...text.parentElement.querySelectorAll("rect.dot")];
-  return boxes.filter(isRound).reduce((under, it) => over(numbersIn(getComputedStyle(it).fill), under), painted(text));
+  const scopes = [...text.ownerSVGElement.querySelectorAll("rect.scope")];
+  const boxes = [...scopes, ...text.parentElement.querySelectorAll("rect.dot")].filter(isRound);
+  return boxes.reduce((under, it) => over(numbersIn(getComputedStyle(it).fill), under), painted(text));
+}
+
+// Badges that lie over the code of their line.
+function covered() {
+  return [...document.querySelectorAll(".badges")].flatMap(it => {
+    const one = it.getBoundingClientRect();
+    const other = it.parentElement.querySelector(".line").getBoundingClientRect();
+    const isBeside = one.left >= other.right || other.left >= one.right;
+    const isApart = isBeside || one.top >= other.bottom - 1 || other.top >= one.bottom - 1;
+    return isApart ? [] : [`a badge lies over the code: ${it.textContent}`];
+  });
 }
 
 // Each text that is seen, with its contrast.
@@ -114,13 +128,14 @@ function contrasts() {
   const found = [];
   while (walker.nextNode()) {
     const element = walker.currentNode.parentElement;
-    if (!walker.currentNode.data.trim() || !element.checkVisibility() || element.closest("option, title, script")) continue;
+    const text = walker.currentNode.data.trim().slice(0, 30);
+    if (!text || !element.checkVisibility() || element.closest("option, title, script")) continue;
     const style = getComputedStyle(element);
     const isDrawn = Boolean(element.ownerSVGElement);
     const under = isDrawn ? drawn(element) : painted(element);
     const colour = over(numbersIn(isDrawn ? style.fill : style.color), under);
     const [low, high] = [light(colour), light(under)].sort((one, other) => one - other);
-    found.push([`${element.localName}.${element.className.baseVal ?? element.className} ${walker.currentNode.data.slice(0, 30)}`, (high + 0.05) / (low + 0.05)]);
+    found.push([`${element.localName} ${element.getAttribute("class")} ${text}`, (high + 0.05) / (low + 0.05)]);
   }
   return found;
 }

@@ -22,7 +22,7 @@ SCRIPTS = (
     ("a script that fails", "show(null);\n}", "show(null);\nnothing();\n}"),
     ("a script that does not begin", "if (data.nodes) {", "if (data.none) {"),
     ("a script that writes markup", "more);\n  }", "more);\n    box.innerHTML += '<article></article>';\n  }"),
-    ("a script that fails when it is pointed at", "function pointed(event) {", "function pointed(event) {\n  nothing();"),
+    ("a script that fails when pointed at", "function pointed(event) {", "function pointed(event) {\n  nothing();"),
     ("a script that fails at a click", "function keep(element) {", "function keep(element) {\n  nothing();"),
 )
 

@@ -12,5 +12,6 @@ report.
     program, refusals, name_places, given_inputs, file_view            the program's answers, and all that is shown
     statement_marks, origin                                            the lines of what `sweet-c` wrote a text from
     html_page, source_pane, panel, graph_picture, terminal             the two forms; markup and part_row serve them
-    command                                                            the words
+    visible                                                            what nobody sees, as escapes
+    given_file, page_file, command                                     what is read and written, and the words
 """

@@ -22,8 +22,8 @@ Writes the report of `./sweet analyse` on the source of FILE, of C or of ALF, as
   --own-lines   shows the lines of FILE also where ./sweet-c wrote it; without it those of the file that it came from
   --from IN.c   names the file that ./sweet-c wrote FILE from, where that does not stand beside FILE
 
-The status is 0 where lines are marked, 1 where they are not (the page and standard error tell why), and 2 where there is
-no page. No file is written over but a page of sweet-view. The variable SWEET names another program than ./sweet."""
+The status is 0 where lines are marked, 1 where they are not (the page and standard error tell why), and 2 where there
+is no page. No file is written over but a page of sweet-view. The variable SWEET names another program than ./sweet."""
 
 
 @dataclasses.dataclass(slots=True)

@@ -65,7 +65,7 @@ class View:
     def why_not(self) -> str:
         """Why there is no report, or why no line is marked, in a sentence."""
         where = f" It is at line {self.place[0] + 1} of {self.shown_path}." if self.place else ""
-        differs = f"No line of {self.path} is marked, since the rules of this viewer and of ./sweet do not agree on it: "
+        differs = f"No line of {self.path} is marked: the rules of this viewer and of ./sweet do not agree on it: "
         told = [f"There is no report on {self.path}. {self.refusal.words}{where}"] if self.refusal else []
         return " ".join([*told, *([f"{differs}{self.differs}."] if self.differs else [])])
 

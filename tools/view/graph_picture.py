@@ -8,6 +8,8 @@ from view.report import range_text
 
 ROW, INDENT, LEFT, TOP, LANE, LETTER = 24, 22, 26, 16, 7, 7
 LEAST = 500
+# Letters of a node's name for those who hear it.
+LONGEST = 200
 
 
 def picture_of(analysis: Analysis) -> Markup:
@@ -124,7 +126,7 @@ class Picture:
 
     def node(self, node: Node) -> Markup:
         number, line, count = node.number, node.block.home + 1, self.count(node)
-        label = node.block.text + (" is entered" if node.block.number == ENTRY else "")
+        label = shortened(node.block.text, LONGEST) + (" is entered" if node.block.number == ENTRY else "")
         sign = "▲ " if number in self.found.alarms.first_item else ""
         kind = "dead" if node.is_dead else f"h{self.model.level(node.share)}"
         letters = (self.width - self.text_start - self.count_width - 44 - 3 * self.deepest) // LETTER

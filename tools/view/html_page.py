@@ -88,7 +88,7 @@ class Page:
             [
                 element("h1", self.name),
                 element("p", element("code", command), class_="cmd"),
-                element("div", element("strong", in_line(self.view.unproved)), class_="warn") if self.view.unproved else NOTHING,
+                self.unproved(),
                 self.origin(),
                 *self.warnings(),
                 self.bare_report() if self.view.status == 0 and not self.found else NOTHING,
@@ -97,15 +97,20 @@ class Page:
             ]
         )
 
+    def unproved(self) -> Markup:
+        """That the answers are not those of the proved program, if so."""
+        told = in_line(self.view.unproved)
+        return element("div", element("strong", told), class_="warn") if told else NOTHING
+
     def origin(self) -> Markup:
         """That the report is of another text than the one that is shown."""
         origin = self.view.origin
         if origin is None:
             return NOTHING
         out = element("code", in_line(os.path.basename(origin.written)))
-        words: list[Content] = [element("strong", "What is proved speaks of ", out), ", which ", element("code", "./sweet-c")]
-        words += [f" wrote from {self.name}. Counts, loops and alarms of each statement stand here at the line of "]
-        words += [f"{self.name} that it comes from; the lists have its words in ", out, "."]
+        words: list[Content] = [element("strong", "What is proved speaks of ", out), ", which "]
+        words += [element("code", "./sweet-c"), f" wrote from {self.name}. Counts, loops and alarms of each statement "]
+        words += [f"stand here at the line of {self.name} that it comes from; the lists have its words in ", out, "."]
         return element("div", *words, class_="from")
 
     def written_text(self) -> Markup:

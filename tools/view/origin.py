@@ -69,7 +69,8 @@ def text_beside(head: Head, path: str, name: str) -> str:
     except Unreadable:
         given = None
     if given is None or not head.is_of(given):
-        raise Apart(f"{path} came from {name}, which does not stand beside it as it was then (--from names it): {TOLD}.")
+        why = f"came from {name}, which does not stand beside it as it was then (--from names it)"
+        raise Apart(f"{path} {why}: {TOLD}.")
     return given.decode("utf-8", "surrogateescape")
 
 

@@ -13,8 +13,8 @@ STREAMS = (stat.S_ISFIFO, stat.S_ISCHR, stat.S_ISSOCK)
 
 
 def write(page: bytes, out: str, words: list[str]) -> bool:
-    """Whether the page stands in a file of this name, and did not go on by standard output or by another stream. No file
-    that one of the words names is written over."""
+    """Whether the page stands in a file of this name, and did not go on by standard output or by another stream. No
+    file that one of the words names is written over."""
     try:
         found = None if out == "-" else os.stat(out)
         if found is None or is_output(found):
@@ -68,11 +68,8 @@ def give_name(name: str, out: str, words: list[str]) -> None:
     """A link is made only where nothing is; what came since it was looked at is looked at, too."""
     try:
         os.link(name, out, follow_symlinks=False)
-    except FileExistsError:
-        hold(out, words)
-        os.replace(name, out)
     except OSError:
-        # There are file systems without links.
+        # Something is there, or the file system has no links.
         hold(out, words)
         os.replace(name, out)
 

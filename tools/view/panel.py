@@ -10,6 +10,8 @@ from view.report import percent_text, range_text
 
 # Rows of the list of parts that are shown at once.
 FIRST = 10
+# Letters of a part that the box tells: a function of one long block may be called from many places.
+LONGEST = 400
 
 
 class Panel:
@@ -169,7 +171,7 @@ class Panel:
         """For each node: text, line, count in a run and per loop entry, cost, share, name, caller, times counted."""
         return [
             [
-                it.block.text,
+                shortened(it.block.text, LONGEST),
                 it.block.home + 1,
                 "–" if it.is_dead else range_text(it.low, it.high),
                 self.per_entry(it),

@@ -13,6 +13,8 @@ from view.model import Block
 from view.part_row import column_in, labels_row
 from view.report import percent_text
 
+# A function of so many lines times calls, and of more, has no box to choose a call.
+MOST_CHOICES = 100_000
 KEYWORDS = TYPE_WORDS | frozenset("if else for while do switch case default break continue return".split())
 
 
@@ -168,6 +170,8 @@ class SourcePane:
             return element("span", "not called", class_="badge off")
         if len(paths) == 1:
             return None
+        if not self.has_choice(function):
+            return element("span", f"{len(paths)} calls, added up", class_="badge off")
         options = [element("option", f"{len(paths)} calls, added up", value="")]
         for at, path in enumerate(paths):
             options.append(element("option", f"call from line {model.call_words(path)}", value=at))
@@ -202,12 +206,17 @@ class SourcePane:
         """For each function that is called twice the facts of its lines: of all calls together, then of each."""
         model, found = self.found.model, {}
         for number, function in enumerate(model.source.functions):
-            paths = model.paths.get(function.name, [])
-            lines = [
-                line
-                for line, blocks in sorted(model.at_line.items())
-                if all(block.function is function for block in blocks)
-            ]
-            if len(paths) > 1:
+            if self.has_choice(function):
+                paths, lines = model.paths[function.name], self.lines_of(function)
                 found[number] = [{it: self.row_facts(it, path) for it in lines} for path in (None, *paths)]
         return found
+
+    def has_choice(self, function: Function) -> bool:
+        """Whether the calls of a function can be seen one by one."""
+        calls = len(self.found.model.paths.get(function.name, []))
+        return calls > 1 and calls * len(self.lines_of(function)) < MOST_CHOICES
+
+    def lines_of(self, function: Function) -> list[int]:
+        """The lines that belong to a function alone."""
+        at_line = sorted(self.found.model.at_line.items())
+        return [line for line, blocks in at_line if all(it.function is function for it in blocks)]

@@ -32,7 +32,8 @@ class Screen:
 
     def lines(self) -> list[str]:
         rows = [line for number in range(len(self.view.rows)) for line in self.row(number)]
-        return [*(self.paint("", it) for it in self.heading()), *rows, *(self.paint("", it) for it in self.exclusions())]
+        heading, end = ([self.paint("", it) for it in told] for told in (self.heading(), self.exclusions()))
+        return [*heading, *rows, *end]
 
     def heading(self) -> list[str]:
         view, found = self.view, []

@@ -3,8 +3,8 @@
 import re
 import unicodedata
 
-# Controls, format characters (as those that turn the direction of a line), lone surrogates, what Unicode leaves to others
-# or has not given out, and ends of lines and of paragraphs.
+# Controls, format characters (as those that turn the direction of a line), lone surrogates, what Unicode leaves to
+# others or has not given out, and ends of lines and of paragraphs.
 UNSEEN = frozenset(("Cc", "Cf", "Cs", "Co", "Cn", "Zl", "Zp"))
 BEYOND_ASCII = re.compile("[^ -~]")
 # A byte that is no UTF-8 is read as a surrogate from here on.

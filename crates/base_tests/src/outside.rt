@@ -179,7 +179,9 @@ static FOLDER: &str = "\
 4097 4097 => same
 8193 8193 => same
 9000 9000 => same
-9000 8999 => too long";
+9000 8999 => too long
+200000 200000 => same
+200001 200000 => too long";
 
 #[test]
 fn a_folder_gives_the_files_of_the_system(rt: HostRuntime) -> Result<(), Fail> {

@@ -1,70 +1,98 @@
-//! A reader and a writer that take so many bytes at a time and are interrupted, read and written whole.
+//! A source and an output that take so many bytes at a time and are interrupted, read and written whole.
+
+ghost use Rattle.std.specs.Prelude.{◌≡◌, ◌≤◌, ◌<◌, None, Some, length, ⊤};
 
 use crate::tables::{hold, number, part};
-use flow_base::{ReadError, WriteError, read_whole, write_whole};
+use flow_base::{Output, ReadError, Refusal, Source, WriteError, read_whole, write_whole};
 use std::alloc::{AllocError, Global};
-use std::io::{self, ErrorKind, Read, Write};
+use std::io::{Error, ErrorKind};
 use std::test::Fail;
 
 // A pipe with these bytes left, or that took these. It passes so many bytes at a time, each second call is interrupted
-// where it says so, and after so many bytes each call fails.
+// where it says so, and after so many bytes each call is refused for this reason.
 #[derive(Drop)]
 struct Pipe {
     at_a_time: usize,
     is_interrupted: bool,
-    fails_after: usize,
+    refused_after: usize,
+    refusal: Refusal,
     bytes: Vec<u8>,
     at: usize,
-    calls: u32,
+    patience: u32,
 }
 
 impl Pipe {
-    // Whether this call fails, and how.
-    fn refusal(&mut self, passed: usize) -> Option<io::Error> {
-        self.calls = self.calls.wrapping_add(1);
-        if self.is_interrupted && self.calls % 2 == 1 {
-            return Some(io::Error::from(ErrorKind::Interrupted));
+    // Why this call is refused, if it is.
+    fn refused(&mut self, passed: usize) -> Option<Refusal>
+        ensures patient { self.new.patience ≤ self.old.patience }
+        ensures interrupted { result ≡ Some Refusal.Interrupted → self.new.patience < self.old.patience }
+    {
+        if self.is_interrupted && self.patience % 2 == 1 {
+            self.patience -= 1;
+            return Some(Refusal::Interrupted);
         }
-        if passed >= self.fails_after {
-            return Some(io::Error::from(ErrorKind::BrokenPipe));
+        self.patience = self.patience.saturating_sub(1);
+        if passed < self.refused_after {
+            return None;
         }
-        None
+        match self.refusal {
+            Refusal::Memory => Some(Refusal::Memory),
+            _ => Some(Refusal::Failed),
+        }
     }
 }
 
-impl Read for Pipe {
-    fn read(&mut self, buf: &mut [u8]) -> io::Result<usize> {
+// Puts the bytes from a place into the piece, at most so many, and tells how many.
+fn put(bytes: &[u8], at: usize, most: usize, piece: &mut [u8]) -> usize
+    ensures { result ≤ length piece.new }
+{
+    let mut count = 0;
+    while count < piece.len() && count < most {
+        let Some(byte) = bytes.get(at.saturating_add(count)) else {
+            return count;
+        };
+        piece[count] = *byte;
+        count += 1;
+    }
+    count
+}
+
+impl Source for Pipe {
+    ghost left = { λ _. None };
+
+    ghost fails = { λ _. ⊤ };
+
+    ghost patience = { λ pipe. pipe.patience };
+
+    fn read(&mut self, piece: &mut [u8]) -> Result<usize, Refusal> {
         let at = self.at;
-        if let Some(error) = self.refusal(at) {
-            return Err(error);
+        if let Some(refusal) = self.refused(at) {
+            return Err(refusal);
         }
-        let mut count = 0;
-        while count < buf.len() && count < self.at_a_time {
-            let Some(byte) = self.bytes.get(self.at) else {
-                return Ok(count);
-            };
-            buf[count] = *byte;
-            self.at = self.at.saturating_add(1);
-            count += 1;
-        }
+        let count = put(&self.bytes, at, self.at_a_time, piece);
+        self.at = at.saturating_add(count);
         Ok(count)
     }
 }
 
-impl Write for Pipe {
-    fn write(&mut self, buf: &[u8]) -> io::Result<usize> {
-        let taken = self.bytes.len();
-        if let Some(error) = self.refusal(taken) {
-            return Err(error);
-        }
-        let count = buf.len().min(self.at_a_time);
-        let (piece, _) = buf.split_at(count);
-        self.bytes.extend_from_slice(piece)?;
-        Ok(count)
-    }
+impl Output for Pipe {
+    ghost taken = { λ _. None };
 
-    fn flush(&mut self) -> io::Result<()> {
-        Ok(())
+    ghost fails = { λ _. ⊤ };
+
+    ghost patience = { λ pipe. pipe.patience };
+
+    fn write(&mut self, bytes: &[u8]) -> Result<usize, Refusal> {
+        let taken = self.bytes.len();
+        if let Some(refusal) = self.refused(taken) {
+            return Err(refusal);
+        }
+        let count = bytes.len().min(self.at_a_time);
+        let (piece, _) = bytes.split_at(count);
+        match self.bytes.extend_from_slice(piece) {
+            Ok(()) => Ok(count),
+            Err(_) => Err(Refusal::Memory),
+        }
     }
 }
 
@@ -78,15 +106,20 @@ pub fn some_bytes(alloc: Global, count: u32) -> Result<Vec<u8>, AllocError> {
 }
 
 // The pipe with these bytes of which a row begins with the manner: how many bytes it passes at a time, whether it is
-// interrupted, and after how many bytes it fails.
+// interrupted (`broken`) or is refused for want of memory (`hungry`), and after how many bytes it is refused.
 fn pipe_with(row: &str, bytes: Vec<u8>) -> Pipe {
+    let refusal = match part(row, " ", 1) {
+        "hungry" => Refusal::Memory,
+        _ => Refusal::Failed,
+    };
     Pipe {
         at_a_time: number(part(row, " ", 0)) as usize,
         is_interrupted: part(row, " ", 1) == "broken",
-        fails_after: number(part(row, " ", 2)) as usize,
+        refused_after: number(part(row, " ", 2)) as usize,
+        refusal,
         bytes,
         at: 0,
-        calls: 0,
+        patience: u32::MAX,
     }
 }
 
@@ -118,7 +151,7 @@ pub fn reader_told(alloc: Global, asked: &str) -> Result<String, AllocError> {
 // How many bytes a pipe passes at a time, whether it is broken by interruptions, after how many bytes it fails, how
 // many it has, and the most that is wanted.
 static READERS: &str = "\
-40 reader
+48 reader
 1000000 steady 1000000 0 0 => same
 1000000 steady 1000000 1 0 => too long
 1000000 steady 1000000 1 1 => same
@@ -158,7 +191,15 @@ static READERS: &str = "\
 1000000 steady 1000000 10 18446744073709551615 => same
 1 steady 0 5000 5000 => failed
 1 steady 5 5000 5000 => failed
-1 steady 4096 5000 5000 => failed";
+1 steady 4096 5000 5000 => failed
+1 hungry 5 5000 5000 => memory
+8191 steady 1000000 8192 8192 => same
+8192 steady 1000000 8192 8192 => same
+8193 steady 1000000 8193 8192 => too long
+7 steady 1000000 200000 200000 => same
+7 broken 1000000 200000 200000 => same
+100000 broken 1000000 200000 200000 => same
+100000 broken 1000000 200001 200000 => too long";
 
 #[test]
 fn a_reader_is_read_to_its_end_or_gives_no_bytes(rt: HostRuntime) -> Result<(), Fail> {
@@ -183,7 +224,7 @@ pub fn writer_told(alloc: Global, asked: &str) -> Result<String, AllocError> {
 // How many bytes a pipe passes at a time, whether it is broken by interruptions, after how many bytes it fails, and how
 // many are written.
 static WRITERS: &str = "\
-19 writer
+23 writer
 1000000 steady 1000000 0 => same
 1000000 steady 1000000 1 => same
 1000000 steady 1000000 4095 => same
@@ -202,9 +243,41 @@ static WRITERS: &str = "\
 7 broken 0 100 => failed 0
 7 broken 14 100 => failed 14
 7 broken 98 100 => failed 98
-0 steady 1000000 100 => failed 0";
+0 steady 1000000 100 => failed 0
+1 hungry 5 100 => failed 5
+1000000 steady 1000000 200000 => same
+7 steady 1000000 200000 => same
+65536 broken 1000000 200000 => same";
 
 #[test]
 fn a_writer_takes_all_or_a_prefix(rt: HostRuntime) -> Result<(), Fail> {
     hold(rt.alloc(), WRITERS)
+}
+
+/// What is told of an error of the system.
+pub fn refusal_told(alloc: Global, asked: &str) -> Result<String, AllocError> {
+    let kind = match asked {
+        "interrupted" => ErrorKind::Interrupted,
+        "out of memory" => ErrorKind::OutOfMemory,
+        "not found" => ErrorKind::NotFound,
+        _ => ErrorKind::BrokenPipe,
+    };
+    let told = match Refusal::of(&Error::from(kind)) {
+        Refusal::Interrupted => "again",
+        Refusal::Memory => "memory",
+        Refusal::Failed => "failed",
+    };
+    String::from_str(alloc, told)
+}
+
+static REFUSALS: &str = "\
+4 refusal
+interrupted => again
+out of memory => memory
+not found => failed
+broken pipe => failed";
+
+#[test]
+fn errors_of_the_system_are_refusals(rt: HostRuntime) -> Result<(), Fail> {
+    hold(rt.alloc(), REFUSALS)
 }

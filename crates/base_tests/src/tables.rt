@@ -5,7 +5,7 @@ use crate::numbers::{checked_told, parts_told, pieces_told, quotient_told, sums_
 use crate::operators::{names_told, outcome_told, shape_told, word_told};
 use crate::outside::{digits_told, fault_told, name_told, shelf_told, sink_told, sure_sink_told};
 use crate::searches::boxes_told;
-use crate::streams::{reader_told, writer_told};
+use crate::streams::{reader_told, refusal_told, writer_told};
 use crate::walks::{calls_told, reached_told, walk_told};
 use crate::words::command_told;
 use std::alloc::{AllocError, Global};
@@ -64,6 +64,7 @@ fn answer_of(alloc: Global, subject: &str, asked: &str) -> Result<String, AllocE
         "sure_sink" => sure_sink_told(alloc, asked),
         "reader" => reader_told(alloc, asked),
         "writer" => writer_told(alloc, asked),
+        "refusal" => refusal_told(alloc, asked),
         "words" => command_told(alloc, asked),
         _ => answer_below(alloc, subject, asked),
     }

@@ -156,7 +156,7 @@ analyse,a.cc => analyse a.cc main - - 100000 joins 1000
 analyse,--,-a.c => analyse of C -a.c main - - 100000 joins 1000
 analyse,a.c,--inputs,i.toml,--root=f,--merge,none => analyse of C a.c f i.toml - 100000 none 1000
 analyse,a.alf,--root,f => analyse a.alf f - - 100000 joins 1000
-analyse,a.alf,--root= => analyse a.alf  - - 100000 joins 1000
+analyse,a.alf,--root=~ !f => analyse a.alf ~ !f - - 100000 joins 1000
 analyse,a.alf,--root=-f => analyse a.alf -f - - 100000 joins 1000
 analyse,a.alf,--costs,c.toml => analyse a.alf main - c.toml 100000 joins 1000
 analyse,--costs,c.toml,--turns=7,a.alf,--root,g => analyse a.alf g - c.toml 7 joins 1000
@@ -183,7 +183,7 @@ run,c,--inputs,a.c => run c main a.c - 100000
 lower,a.c => lower a.c main
 lower,a.c,--root,f => lower a.c f
 lower,--root=f,a.c => lower a.c f
-lower,a.c,--root= => lower a.c\x20
+lower,a.c,--root=~ => lower a.c ~
 lower,.c => lower .c main
 lower,a.alf.c => lower a.alf.c main
 lower,--,-a.c => lower -a.c main
@@ -231,7 +231,7 @@ fn words_are_commands_in_any_order(rt: HostRuntime) -> Result<(), Fail> {
 
 // Words that are no command. The row with nothing in it has the empty word alone.
 static NO_COMMANDS: &str = "\
-166 words => no command
+172 words => no command
 analyse
 
 print
@@ -282,6 +282,12 @@ analyse,-a.c
 analyse,a.c,a.c
 analyse,a.alf,--root
 analyse,a.alf,--root,-f
+analyse,a.alf,--root=
+lower,a.c,--root=
+run,a.alf,--root,a\"b
+check,a.alf,r.txt,--root,a\\b
+worst,a.alf,--root,\x7f
+cache,a,--sets,2,--ways,2,--line,32,--penalty,9,--root,\x1f
 analyse,a.alf,--root,f,--root,f
 analyse,a.alf,--inputs
 analyse,a.alf,--inputs,-i

@@ -1,3 +1,4 @@
 -- The files here.
 pub mod Summing
 pub mod Placing
+pub mod Behind

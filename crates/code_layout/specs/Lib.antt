@@ -1,3 +1,4 @@
 -- The layout of code, and what holds of it.
 pub mod Layouts
 pub mod LayoutLaws
+pub mod Worked

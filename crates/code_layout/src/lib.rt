@@ -10,5 +10,11 @@ mod statements;
 // Where they lie.
 mod places;
 
+// What the definitions promise, and a program that is laid out.
+mod laws;
+mod worked;
+
+pub use laws::{blocks_lie_one_behind_the_other, nodes_lie_where_their_blocks_do};
 pub use places::parts;
 pub use statements::{MOST_STATEMENTS, statement_count};
+pub use worked::small_programs_are_laid_out;

@@ -46,5 +46,6 @@ pub use task_list::tasks;
 pub use task_set::Task;
 pub use worked::{
     blocks_cost_what_the_table_says, globals_and_arguments_are_inputs, keys_have_their_kinds,
-    ranges_have_the_words_of_their_size, the_last_entry_tells_a_cost,
+    names_of_tasks_are_printed, ranges_have_the_words_of_their_size,
+    tasks_have_the_numbers_of_their_keys, the_last_entry_tells_a_cost, values_stand_in_their_order,
 };

@@ -1,6 +1,6 @@
 //! The files of the system.
 
-ghost use Rattle.std.specs.Prelude.{None, ⊤};
+ghost use Rattle.std.specs.Prelude.{◌≡◌, None, ⊤};
 
 use crate::refusal::once_less;
 use crate::{Open, Refusal, Source, StreamShelf};
@@ -29,7 +29,9 @@ pub struct FolderFile<R: Files> {
 
 impl<'a, R: Files> StreamShelf<Folder<'a, R>> {
     /// The files that this runtime reaches; no read has failed. Takes no memory.
-    pub fn new(runtime: &'a R) -> Self {
+    pub fn new(runtime: &'a R) -> Self
+        ensures { (result.reads ≡ 0) × (result.faults ≡ 0) × (result.failed ≡ None) }
+    {
         StreamShelf::over(Folder { runtime })
     }
 }

@@ -21,6 +21,8 @@ impl Refusal {
     pub fn of(error: &Error) -> Refusal
         ensures interrupted { result ≡ Refusal.Interrupted ↔ error_kind error.now ≡ ErrorKind.Interrupted }
         ensures memory { result ≡ Refusal.Memory ↔ error_kind error.now ≡ ErrorKind.OutOfMemory }
+        ensures failed { result ≡ Refusal.Failed
+            → (error_kind error.now ≢ ErrorKind.Interrupted) × (error_kind error.now ≢ ErrorKind.OutOfMemory) }
     {
         match error.kind() {
             ErrorKind::Interrupted => Refusal::Interrupted,

@@ -1,6 +1,6 @@
 //! The standard output.
 
-ghost use Rattle.std.specs.Prelude.{None, ⊤};
+ghost use Rattle.std.specs.Prelude.{◌≡◌, None, ⊤};
 
 use crate::refusal::once_less;
 use crate::{Output, Refusal, StreamSink};
@@ -19,7 +19,9 @@ pub struct StandardOutput<'a, P: Print> {
 
 impl<'a, P: Print> StreamSink<StandardOutput<'a, P>> {
     /// The standard output of this runtime; no write has failed. Takes no memory.
-    pub fn new(runtime: &'a P) -> Self {
+    pub fn new(runtime: &'a P) -> Self
+        ensures { (result.writes ≡ 0) × (result.faults ≡ 0) }
+    {
         StreamSink::over(StandardOutput {
             runtime,
             patience: u32::MAX,

@@ -12,3 +12,4 @@ pub mod Traced
 pub mod LruLaws
 pub mod MissRules
 pub mod MissLaws
+pub mod Worked

@@ -17,10 +17,15 @@ mod outlines;
 mod misses;
 mod row;
 
-// What the definitions promise.
+// What the definitions promise, and caches that are worked out.
 mod laws;
+mod worked;
 
-pub use laws::{bounds_follow_the_rule, contents_stay_contents, traces_are_turned_runs};
+pub use laws::{
+    bounds_follow_the_rule, contents_stay_contents, the_lines_of_a_part_are_those_of_its_bytes,
+    traces_are_turned_runs,
+};
 pub use misses::{Misses, MissesBook};
 pub use outlines::notes;
 pub use shape::Shape;
+pub use worked::{accesses_hit_what_is_there, lines_have_their_sets, parts_have_their_lines};

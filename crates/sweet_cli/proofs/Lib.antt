@@ -15,6 +15,7 @@ pub mod JudgedChecks
 pub mod SoundChecks
 pub mod CheckPromises
 pub mod MigratePromises
+pub mod Migrated
 pub mod JudgedReplays
 pub mod ToldReplays
 pub mod ReplayPromises

@@ -204,19 +204,3 @@ pub settle : (w : Work (List ℕ)) (told : Option Files) (p : Log) (ending : End
 settle w None p ending q status from to due none is wrote = tt
 settle w (Some files) p ending q status from to due none is wrote =
     (ending_text ending, record { ending = ending; before = p; after = q; due = due; no_failed_read = none; status_is = is; text_is = refl }, wrote)
-
--- a status of a failed read comes only with one that is told
-unread_told : (c : Cause) (before after : ShelfState) → status_of c ≡ statuses.ReadFailed
-    → Tells (unread_of c) before after → (name : List ℕ) × Rose before.faults after.faults × (after.failed ≡ Some name)
-unread_told Usage before after e t = absurd (cc)
-unread_told Source before after e t = absurd (cc)
-unread_told Example before after e t = absurd (cc)
-unread_told Unbounded before after e t = absurd (cc)
-unread_told No before after e t = absurd (cc)
-unread_told (Unread name) before after e t = (name, t.0, t.1)
-
-pub read_failed : (ending : Ending) (before after : ShelfState) → ending_status ending ≡ statuses.ReadFailed
-    → Tells (ending_unread ending) before after
-    → (name : List ℕ) × Rose before.faults after.faults × (after.failed ≡ Some name)
-read_failed (Finished text) before after e t = absurd (cc)
-read_failed (Stopped outcome) before after e t = unread_told outcome.cause before after e t

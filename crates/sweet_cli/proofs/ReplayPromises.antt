@@ -52,6 +52,7 @@ module _ (program : NumberedProgram) (graph : GraphParts) (rows : List InputRow)
       → Runs program graph.nodes (start program rows (words_of rows values)) trace outcome
       → TellEnd (shape_of is.outline) (costs_of is.outline) report trace (fault_of outcome) (Ok cost) → HoldsOfRun program graph rows costs report values cost
   of_end inside trace outcome runs end =
+      let shaped = (asked is.is).0 in
       let alarm = asked end in
       let lines = asked alarm.1 in
       let count = asked lines.1 in
@@ -60,6 +61,7 @@ module _ (program : NumberedProgram) (graph : GraphParts) (rows : List InputRow)
       record {
         outline = is.outline;
         outline_is = is.outline_is;
+        legend = record { names = is.names; nodes = shaped.nodes; scopes = shaped.scopes };
         inside = inside;
         trace = trace;
         outcome = outcome;

@@ -39,6 +39,11 @@ sound_of law program graph rows costs policy turns pivots report h =
     record {
       outline = a.outline;
       outline_is = a.outline_is;
+      legend = record {
+        names = a.names;
+        nodes = ap (λ (r : Reported). r.nodes) h.bounded ∙ ap (λ (r : Reported). r.nodes) a.found.told;
+        scopes = ap (λ (r : Reported). r.scopes) h.bounded ∙ ap (λ (r : Reported). r.scopes) a.found.told;
+      };
       costs_are = a.costs_are;
       sound = subst (λ (p : NumberedProgram). IsSound p graph rows (shape_of a.outline) costs report) a.program_is (right.sound costs priced);
       within = right.within;
@@ -59,6 +64,7 @@ module _ (program : NumberedProgram) (graph : GraphParts) (rows : List InputRow)
   certified_sound = record {
     outline = s.outline;
     outline_is = s.outline_is;
+    legend = record { names = s.legend.names; nodes = s.legend.nodes; scopes = s.legend.scopes };
     costs_are = s.costs_are;
     sound = λ start from.
         let h = s.sound start from in

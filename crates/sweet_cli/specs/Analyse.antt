@@ -4,7 +4,7 @@
 --   ReportMeans certify program rows costs policy turns pivots meaning   the report of the exploration with its path bound, and with its
 --       certificate where one is wanted; or that places are left
 --   analysing given              the order of work
---   IsSoundOf program graph rows costs report   the report is sound for the program, with the scopes of its graph, and its path bound is what its word says
+--   IsSoundOf program graph rows costs report   the report is sound for the program, with the names and the scopes of its graph, and its path bound is what its word says
 --   HasCertificate certify o report   where a certificate is wanted, the report has one whose multipliers hold for its rows, and else none
 --   IsSoundReport given files text   the promise: the text spells a report that is sound for the program that the file gives
 --   analyse given                the task
@@ -38,6 +38,7 @@ use Rattle.answer_texts.specs.ScopeLines.{left_line}
 use Rattle.command_files.specs.Scopes.{ScopedProgram, scoped_in}
 use Rattle.command_files.specs.Tables.{tables_in, AreInputs, AreCosts}
 use Rattle.sweet_cli.specs.Words.{AnalyseWords, Merging, Never, Exits, Joins}
+use Rattle.sweet_cli.specs.Legends.{HasLegend}
 use Rattle.sweet_cli.specs.Task.{Task}
 
 -- the policy that merges there
@@ -68,12 +69,13 @@ analysing given = do
   report ← judged (ReportMeans given.certified program tables.rows tables.costs (policy_of given.merging) given.turns given.pivots)
   done (report_text report)
 
--- the report is sound for the program, with the scopes of its graph; its path bound is at most its count bound, and
+-- the report is sound for the program, with the names and the scopes of its graph; its path bound is at most its count bound, and
 -- where its word is `least`, it is the greatest worth of a point that meets the report's rows, rounded down
 pub record IsSoundOf (program : NumberedProgram) (graph : GraphParts) (rows : List InputRow) (costs : CostTable)
     (report : Reported) : Type 0 where
   pub outline : Outlined
   pub outline_is : IsOutlineOf (plan_of graph) (shape_of outline)
+  pub legend : HasLegend graph outline report
   pub costs_are : HasCosts program graph costs outline
   pub sound : IsSound program graph rows (shape_of outline) costs report
   pub within : IsWithinCount report

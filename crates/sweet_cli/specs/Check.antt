@@ -3,7 +3,7 @@
 --   CheckMeans program rows costs report meaning  nothing speaks against the report, or this does
 --   report_judged file program tables   the report is read and judged
 --   checking given                the order of work
---   IsSoundOf program graph rows costs report   the report is sound for the program, with the scopes of its graph
+--   IsSoundOf program graph rows costs report   the report is sound for the program, with the names, the costs and the scopes of its graph
 --   IsSoundTold file files program graph rows costs   the told file spells a report that is so
 --   IsAccepted given files text   the promise: the report of the file is sound for the program that the file gives
 --   check given                   the task
@@ -30,6 +30,7 @@ use Rattle.command_files.specs.Scopes.{ScopedProgram, scoped_in}
 use Rattle.command_files.specs.Tables.{Tables, tables_in, AreInputs, AreCosts}
 use Rattle.command_files.specs.ReportFiles.{report_in, IsToldReport}
 use Rattle.sweet_cli.specs.Words.{CheckWords}
+use Rattle.sweet_cli.specs.Legends.{HasLegend}
 use Rattle.sweet_cli.specs.Task.{Task}
 
 -- the text of a report that is accepted
@@ -61,11 +62,12 @@ checking given = do
   tables ← tables_in program.expanded.program given.inputs given.costs
   report_judged given.report program tables
 
--- the report is sound for the program, with the scopes of its graph and the costs of its nodes
+-- the report is sound for the program, with the names, the costs and the scopes of its graph
 pub record IsSoundOf (program : NumberedProgram) (graph : GraphParts) (rows : List InputRow) (costs : CostTable)
     (report : Reported) : Type 0 where
   pub outline : Outlined
   pub outline_is : IsOutlineOf (plan_of graph) (shape_of outline)
+  pub legend : HasLegend graph outline report
   pub costs_are : HasCosts program graph costs outline
   pub sound : IsSound program graph rows (shape_of outline) costs report
 

@@ -6,16 +6,22 @@
 --   EndsAccepted words files   the work of the words ends with `accepted`, and with nothing else but a failed read
 --   OwnReportsAreAccepted   what `analyse --cert` printed is accepted by `check` of the same files
 --   HaveOneAnswer   told files have one answer to the words, and one list of names read, but for failed reads
+--   MigratedReportsSayTheSame   a report and the same in the second form are sound alike, and `check` answers both alike
 --   RunsOfCHaveTheirOwnOutcome   each run of what a told file of C is lowered to has the outcome of the unit from the cells that hold its own numbers
-use Rattle.std.specs.Prelude.{◌≡◌, ◌≤◌, ℕ, ℤ, true, List, length, Option, None, Some, IfSome}
+use Rattle.std.specs.Prelude.{◌≡◌, ◌≤◌, ◌↔◌, ℕ, ℤ, true, List, length, Option, None, Some, IfSome}
 use Rattle.flow_base.specs.Outside.{Files}
 use Rattle.flow_facts.specs.Reports.{Reported}
 use Rattle.fact_words.specs.Canonical.{report_text}
 use Rattle.alf_check.specs.declared.rows.InputRow.{InputRow}
 use Rattle.alf_check.specs.CheckedPrograms.{NumberedProgram}
 use Rattle.alf_runs.specs.Starts.{AreWithin}
+use Rattle.cost_table.specs.CostTables.{CostTable}
+use Rattle.flow_graph.specs.Numbering.{GraphParts}
 use Rattle.c_lower.specs.Outcomes.{HasUnitsOutcomeFrom}
 use Rattle.program_analysis.specs.BoundedAnalyses.{IsPrintedReport}
+use Rattle.program_checks.specs.Checking.{IsCheckOf}
+use Rattle.report_forms.specs.Migrating.{migrated}
+use Rattle.report_objections.specs.declared.objection.Objection.{Objection}
 use Rattle.sweet_words.specs.Files.{file_name}
 use Rattle.command_plans.specs.Log.{Log}
 use Rattle.command_plans.specs.Outcome.{Ending, Finished, ending_unread}
@@ -26,7 +32,7 @@ use Rattle.command_files.specs.Tables.{Tables, tables_in, AreInputs}
 use Rattle.command_files.specs.ReportFiles.{most_report_bytes}
 use Rattle.sweet_cli.specs.Words.{AnalyseWords, CheckWords, Analyse, Check, command_of}
 use Rattle.sweet_cli.specs.Analyse.{analysing, policy_of}
-use Rattle.sweet_cli.specs.Check.{accepted}
+use Rattle.sweet_cli.specs.Check.{IsSoundOf, accepted}
 use Rattle.sweet_cli.specs.Table.{task_of}
 
 -- whatever was read before, told files have one answer to the words, but for a line that gives one example of several;
@@ -94,3 +100,11 @@ RunsOfCHaveTheirOwnOutcome = (file root : List ℕ) (inputs : Option (List ℕ))
     → AreInputs inputs files program rows
     → AreWithin rows numbers
     → HasUnitsOutcomeFrom of_unit.unit root program rows numbers
+
+-- a report and the same in the second form are sound for the same programs, inputs and costs, and `check` answers both
+-- alike
+abbrev pub MigratedReportsSayTheSame : Type 0
+MigratedReportsSayTheSame = (program : NumberedProgram) (graph : GraphParts) (rows : List InputRow) (costs : CostTable) (report : Reported)
+    → (IsSoundOf program graph rows costs report ↔ IsSoundOf program graph rows costs (migrated report))
+    × ((answer : Option Objection)
+    → IsCheckOf program graph rows costs report answer ↔ IsCheckOf program graph rows costs (migrated report) answer)

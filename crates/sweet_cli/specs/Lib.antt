@@ -7,6 +7,7 @@ pub mod MadeFile
 -- commands, a file each, and their table
 pub mod Task
 pub mod LeftLines
+pub mod Legends
 pub mod Counting
 pub mod Analyse
 pub mod Print
@@ -23,5 +24,7 @@ pub mod SeenBounders
 pub mod Cache
 pub mod Generate
 pub mod Table
+-- the top of the program
+pub mod Top
 -- laws
 pub mod Laws

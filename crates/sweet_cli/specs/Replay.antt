@@ -38,6 +38,7 @@ use Rattle.command_files.specs.Scopes.{ScopedProgram, scoped_in}
 use Rattle.command_files.specs.Tables.{Tables, tables_in, AreInputs, AreCosts}
 use Rattle.command_files.specs.ReportFiles.{report_in, IsToldReport}
 use Rattle.sweet_cli.specs.Words.{ReplayWords}
+use Rattle.sweet_cli.specs.Legends.{HasLegend}
 use Rattle.sweet_cli.specs.Task.{Task}
 
 -- so is told of the run, by the outline of the program's graph, with names and costs of its nodes
@@ -85,11 +86,12 @@ replaying given = do
 -- ---- the promise
 
 -- the one run from these values, each inside its range, meets each line of the report, has an alarm for its fault, and
--- costs so much, which is at most each bound
+-- costs so much, which is at most each bound; the report has the names, the costs and the scopes of the graph
 pub record HoldsOfRun (program : NumberedProgram) (graph : GraphParts) (rows : List InputRow) (costs : CostTable)
     (report : Reported) (values : List ℤ) (cost : ℕ) : Type 0 where
   pub outline : Outlined
   pub outline_is : IsOutlineOf (plan_of graph) (shape_of outline)
+  pub legend : HasLegend graph outline report
   pub inside : AreWithin rows values
   pub trace : List ℕ
   pub outcome : RunOutcome

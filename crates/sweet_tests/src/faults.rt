@@ -77,21 +77,23 @@ fn a_program_that_does_not_pass_is_told(rt: HostRuntime) -> Result<(), Fail> {
     hold(rt.alloc(), PROGRAMS)
 }
 
-// Words, and the line that tells that no function has the name of the root.
+// Words, and the line that tells that no function has the name of the root, or that it can be no name.
 const ROOTS: &str = r#"$0
 a.alf alf - | i | i=0 @H .
 
 run a.alf --root f => 2 fault 24 root "f";
 run a.alf --root=f => 2 fault 24 root "f";
-run a.alf --root  => 2 fault 24 root "";
-run a.alf --root= => 2 fault 24 root "";
+run a.alf --root  => 1 fault usage;
+run a.alf --root= => 1 fault usage;
 run a.alf --root Main => 2 fault 24 root "Main";
-run a.alf --root x"y\ => 2 fault 24 root "x"y\";
+run a.alf --root x"y => 1 fault usage;
+run a.alf --root x\y => 1 fault usage;
+run a.alf --root x~y! => 2 fault 24 root "x~y!";
 run a.alf --root=-f => 2 fault 24 root "-f";
 run a.alf --root i => 2 fault 24 root "i";
 run a.alf --root H => 2 fault 24 root "H";
 analyse a.alf --root f => 2 fault 24 root "f";
-analyse --root= a.alf => 2 fault 24 root "";
+analyse --root= a.alf => 1 fault usage;
 
 
 $0

@@ -4,13 +4,14 @@
 --   Command      a command, with what it was given
 --   IsWithinRanges  the numbers that a command was given are in their ranges
 --   command_of   the command of the words, where they are one
-use Rattle.std.specs.Prelude.{◌≤◌, ℕ, Bool, false, List, [], ◌∷◌, Option, None, Some, if◌then◌else◌, codes, option_map, option_and_then, unwrap_or}
+use Rattle.std.specs.Prelude.{◌≤◌, ℕ, Bool, false, List, [], ◌∷◌, Option, None, Some, if◌then◌else◌, codes, option_map, option_and_then}
 use Rattle.std.specs.Str.{bytes_eq}
 use Rattle.sweet_words.specs.Forms.{Text, Form, forms, form_named}
 use Rattle.sweet_words.specs.Given.{uses_of, value_in}
 use Rattle.sweet_words.specs.Numbers.{IsFromTo, number_or, number_given}
 use Rattle.sweet_words.specs.Files.{ProgramFile, program_file, c_file}
 use Rattle.sweet_words.specs.Merges.{merging_or_joins}
+use Rattle.sweet_words.specs.Roots.{name_or_main}
 use Rattle.sweet_words.specs.declared.merging.Merging.{Merging}
 
 -- what `analyse` is given: the file of the program, the function that it starts with, the files of inputs and of costs,
@@ -133,8 +134,8 @@ abbrev ◌>>=◌ : {A B : Type 0} → Option A → (A → Option B) → Option B
 found >>= next = option_and_then next found
 
 -- the name of the root function, which is `main` where it is left out
-abbrev pub root_in : (Text → Option Text) → Text
-root_in value = unwrap_or (value (codes "root")) (codes "main")
+abbrev pub root_in : (Text → Option Text) → Option Text
+root_in value = name_or_main (value (codes "root"))
 
 -- the turns are 1 to 1,000,000, and 100,000 where they are left out
 abbrev pub turns_in : (Text → Option Text) → Option ℕ
@@ -154,10 +155,10 @@ is_set None = false
 is_set (Some text) = bytes_eq text (codes "true")
 
 -- `analyse FILE --root NAME --inputs FILE --costs FILE --turns N --merge none|exits|joins --pivots N --cert`
-abbrev pub analyse_words : (Text → Option Text) → ProgramFile → ℕ → Merging → ℕ → AnalyseWords
-analyse_words value program turns merging pivots = record {
+abbrev pub analyse_words : (Text → Option Text) → ProgramFile → Text → ℕ → Merging → ℕ → AnalyseWords
+analyse_words value program root turns merging pivots = record {
   program = program;
-  root = root_in value;
+  root = root;
   inputs = value (codes "inputs");
   costs = value (codes "costs");
   turns = turns;
@@ -166,39 +167,38 @@ analyse_words value program turns merging pivots = record {
   certified = is_set (value (codes "cert"));
 }
 
--- with such turns, and merging there
-abbrev pub analyse_merging : (Text → Option Text) → ProgramFile → ℕ → Merging → Option Command
-analyse_merging value program turns merging = option_map (λ pivots. Analyse (analyse_words value program turns merging pivots)) (pivots_in value)
-
--- with such turns
-abbrev pub analyse_with : (Text → Option Text) → ProgramFile → ℕ → Option Command
-analyse_with value program turns = option_and_then (analyse_merging value program turns) (merging_in value)
-
 -- the file of the program
 abbrev pub file_in : (Text → Option Text) → Option ProgramFile
 file_in value = option_map program_file (value (codes "file"))
 
 abbrev pub analyse_of : (Text → Option Text) → Option Command
-analyse_of value = option_and_then (λ program. option_and_then (analyse_with value program) (turns_in value)) (file_in value)
+analyse_of value = do
+  program ← file_in value
+  root ← root_in value
+  turns ← turns_in value
+  merging ← merging_in value
+  pivots ← pivots_in value
+  Some (Analyse (analyse_words value program root turns merging pivots))
 
 -- `check FILE REPORT --root NAME --inputs FILE --costs FILE`
-abbrev pub check_words : (Text → Option Text) → ProgramFile → Text → CheckWords
-check_words value program report =
-    record { program = program; report = report; root = root_in value; inputs = value (codes "inputs"); costs = value (codes "costs") }
+abbrev pub check_words : (Text → Option Text) → ProgramFile → Text → Text → CheckWords
+check_words value program report root =
+    record { program = program; report = report; root = root; inputs = value (codes "inputs"); costs = value (codes "costs") }
 
 abbrev pub check_of : (Text → Option Text) → Option Command
 check_of value = do
   program ← file_in value
   report ← value (codes "report")
-  Some (Check (check_words value program report))
+  root ← root_in value
+  Some (Check (check_words value program report root))
 
 -- `replay FILE REPORT --at FILE --root NAME --inputs FILE --costs FILE`
-abbrev pub replay_words : (Text → Option Text) → ProgramFile → Text → ReplayWords
-replay_words value program report = record {
+abbrev pub replay_words : (Text → Option Text) → ProgramFile → Text → Text → ReplayWords
+replay_words value program report root = record {
   program = program;
   report = report;
   values = value (codes "at");
-  root = root_in value;
+  root = root;
   inputs = value (codes "inputs");
   costs = value (codes "costs");
 }
@@ -207,26 +207,32 @@ abbrev pub replay_of : (Text → Option Text) → Option Command
 replay_of value = do
   program ← file_in value
   report ← value (codes "report")
-  Some (Replay (replay_words value program report))
+  root ← root_in value
+  Some (Replay (replay_words value program report root))
 
 -- `lower FILE --root NAME`: the file is one of C
-abbrev pub lower_words : (Text → Option Text) → Text → LowerWords
-lower_words value file = record { file = file; root = root_in value }
-
 abbrev pub lower_of : (Text → Option Text) → Option Command
-lower_of value = option_map (λ file. Lower (lower_words value file)) (option_and_then c_file (file_in value))
+lower_of value = do
+  program ← file_in value
+  file ← c_file program
+  root ← root_in value
+  Some (Lower (record { file = file; root = root }))
 
 -- `print FILE`
 abbrev pub print_of : (Text → Option Text) → Option Command
 print_of value = option_map (λ program. Print program) (file_in value)
 
 -- `run FILE --root NAME --inputs FILE --costs FILE --turns N`
-abbrev pub run_words : (Text → Option Text) → ProgramFile → ℕ → RunWords
-run_words value program turns =
-    record { program = program; root = root_in value; inputs = value (codes "inputs"); costs = value (codes "costs"); turns = turns }
+abbrev pub run_words : (Text → Option Text) → ProgramFile → Text → ℕ → RunWords
+run_words value program root turns =
+    record { program = program; root = root; inputs = value (codes "inputs"); costs = value (codes "costs"); turns = turns }
 
 abbrev pub run_of : (Text → Option Text) → Option Command
-run_of value = option_and_then (λ program. option_map (λ turns. Run (run_words value program turns)) (turns_in value)) (file_in value)
+run_of value = do
+  program ← file_in value
+  root ← root_in value
+  turns ← turns_in value
+  Some (Run (run_words value program root turns))
 
 -- ---- programs that are made, and reports of an older form
 
@@ -258,10 +264,10 @@ penalty_in value = number_given 0 4294967295 (value (codes "penalty"))
 
 -- `cache FILE --sets N --ways N --line N --penalty N --root NAME --inputs FILE --costs FILE --turns N --merge
 -- none|exits|joins`
-abbrev pub cache_words : (Text → Option Text) → ProgramFile → ℕ → Merging → ℕ → ℕ → ℕ → ℕ → CacheWords
-cache_words value program turns merging sets ways line penalty = record {
+abbrev pub cache_words : (Text → Option Text) → ProgramFile → Text → ℕ → Merging → ℕ → ℕ → ℕ → ℕ → CacheWords
+cache_words value program root turns merging sets ways line penalty = record {
   program = program;
-  root = root_in value;
+  root = root;
   inputs = value (codes "inputs");
   costs = value (codes "costs");
   turns = turns;
@@ -275,13 +281,14 @@ cache_words value program turns merging sets ways line penalty = record {
 abbrev pub cache_of : (Text → Option Text) → Option Command
 cache_of value = do
   program ← file_in value
+  root ← root_in value
   turns ← turns_in value
   merging ← merging_in value
   sets ← sets_in value
   ways ← ways_in value
   line ← line_in value
   penalty ← penalty_in value
-  Some (Cache (cache_words value program turns merging sets ways line penalty))
+  Some (Cache (cache_words value program root turns merging sets ways line penalty))
 
 -- ---- boxes of inputs
 
@@ -290,10 +297,10 @@ abbrev pub splits_in : (Text → Option Text) → Option ℕ
 splits_in value = number_or 16 1 256 (value (codes "splits"))
 
 -- `worst FILE --splits N --root NAME --inputs FILE --costs FILE --turns N --merge none|exits|joins --pivots N`
-abbrev pub worst_words : (Text → Option Text) → ProgramFile → ℕ → Merging → ℕ → ℕ → WorstWords
-worst_words value program turns merging pivots splits = record {
+abbrev pub worst_words : (Text → Option Text) → ProgramFile → Text → ℕ → Merging → ℕ → ℕ → WorstWords
+worst_words value program root turns merging pivots splits = record {
   program = program;
-  root = root_in value;
+  root = root;
   inputs = value (codes "inputs");
   costs = value (codes "costs");
   turns = turns;
@@ -305,11 +312,12 @@ worst_words value program turns merging pivots splits = record {
 abbrev pub worst_of : (Text → Option Text) → Option Command
 worst_of value = do
   program ← file_in value
+  root ← root_in value
   turns ← turns_in value
   merging ← merging_in value
   pivots ← pivots_in value
   splits ← splits_in value
-  Some (Worst (worst_words value program turns merging pivots splits))
+  Some (Worst (worst_words value program root turns merging pivots splits))
 
 -- ---- tasks
 

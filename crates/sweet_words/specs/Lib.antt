@@ -5,6 +5,7 @@ pub mod Views
 pub mod Numbers
 pub mod Files
 pub mod Merges
+pub mod Roots
 pub mod Commands
 pub mod Meant
 pub mod Matched

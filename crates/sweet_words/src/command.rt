@@ -9,6 +9,7 @@ ghost use Rattle.sweet_words.specs.Meant.{command_meant, file_meant};
 
 use crate::files::{ProgramFile, c_file, program_file};
 use crate::merging::{Merging, merging_or_joins};
+use crate::root::name_or_main;
 use crate::values::{number, number_given};
 use clap::ArgMatches;
 
@@ -151,13 +152,10 @@ fn file<'a>(given: &ArgMatches<'a>) -> Option<ProgramFile<'a>>
 }
 
 // The name of the root function.
-fn root<'a>(given: &ArgMatches<'a>) -> &'a str
-    ensures { result.now ≡ root_in (first_value (found_of given.now)) }
+fn root<'a>(given: &ArgMatches<'a>) -> Option<&'a str>
+    ensures { option_map (λ s. s.now) result ≡ root_in (first_value (found_of given.now)) }
 {
-    match given.get_str("root") {
-        Some(name) => name,
-        None => "main",
-    }
+    name_or_main(given.get_str("root"))
 }
 
 // The most turns.
@@ -187,12 +185,13 @@ fn analyse<'a>(given: &ArgMatches<'a>) -> Option<Command<'a>>
     ensures ranges { IfSome result (λ command. IsWithinRanges (command_meant command)) }
 {
     let program = file(given)?;
+    let root = root(given)?;
     let turns = turns(given)?;
     let merging = merging(given)?;
     let pivots = pivots(given)?;
     Some(Command::Analyse(AnalyseWords {
         program,
-        root: root(given),
+        root,
         inputs: given.get_str("inputs"),
         costs: given.get_str("costs"),
         turns,
@@ -218,10 +217,11 @@ fn check<'a>(given: &ArgMatches<'a>) -> Option<Command<'a>>
 {
     let program = file(given)?;
     let report = given.get_str("report")?;
+    let root = root(given)?;
     Some(Command::Check(CheckWords {
         program,
         report,
-        root: root(given),
+        root,
         inputs: given.get_str("inputs"),
         costs: given.get_str("costs"),
     }))
@@ -233,11 +233,12 @@ fn replay<'a>(given: &ArgMatches<'a>) -> Option<Command<'a>>
 {
     let program = file(given)?;
     let report = given.get_str("report")?;
+    let root = root(given)?;
     Some(Command::Replay(ReplayWords {
         program,
         report,
         values: given.get_str("at"),
-        root: root(given),
+        root,
         inputs: given.get_str("inputs"),
         costs: given.get_str("costs"),
     }))
@@ -249,10 +250,8 @@ fn lower<'a>(given: &ArgMatches<'a>) -> Option<Command<'a>>
 {
     let program = file(given)?;
     let file = c_file(program)?;
-    Some(Command::Lower(LowerWords {
-        file,
-        root: root(given),
-    }))
+    let root = root(given)?;
+    Some(Command::Lower(LowerWords { file, root }))
 }
 
 fn print<'a>(given: &ArgMatches<'a>) -> Option<Command<'a>>
@@ -268,10 +267,11 @@ fn run<'a>(given: &ArgMatches<'a>) -> Option<Command<'a>>
     ensures ranges { IfSome result (λ command. IsWithinRanges (command_meant command)) }
 {
     let program = file(given)?;
+    let root = root(given)?;
     let turns = turns(given)?;
     Some(Command::Run(RunWords {
         program,
-        root: root(given),
+        root,
         inputs: given.get_str("inputs"),
         costs: given.get_str("costs"),
         turns,
@@ -299,6 +299,7 @@ fn cache<'a>(given: &ArgMatches<'a>) -> Option<Command<'a>>
     ensures ranges { IfSome result (λ command. IsWithinRanges (command_meant command)) }
 {
     let program = file(given)?;
+    let root = root(given)?;
     let turns = turns(given)?;
     let merging = merging(given)?;
     let sets = number_given(given.get_str("sets"), 1, 1_024)?;
@@ -307,7 +308,7 @@ fn cache<'a>(given: &ArgMatches<'a>) -> Option<Command<'a>>
     let penalty = number_given(given.get_str("penalty"), 0, 4_294_967_295)?;
     Some(Command::Cache(CacheWords {
         program,
-        root: root(given),
+        root,
         inputs: given.get_str("inputs"),
         costs: given.get_str("costs"),
         turns,
@@ -324,13 +325,14 @@ fn worst<'a>(given: &ArgMatches<'a>) -> Option<Command<'a>>
     ensures ranges { IfSome result (λ command. IsWithinRanges (command_meant command)) }
 {
     let program = file(given)?;
+    let root = root(given)?;
     let turns = turns(given)?;
     let merging = merging(given)?;
     let pivots = pivots(given)?;
     let splits = number(given.get_str("splits"), 16, 1, 256)?;
     Some(Command::Worst(WorstWords {
         program,
-        root: root(given),
+        root,
         inputs: given.get_str("inputs"),
         costs: given.get_str("costs"),
         turns,

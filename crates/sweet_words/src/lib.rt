@@ -14,6 +14,7 @@ mod command;
 mod files;
 mod merging;
 mod reading;
+mod root;
 mod values;
 
 // Laws of words.
@@ -29,4 +30,4 @@ pub use files::ProgramFile;
 pub use laws::{merges_have_their_words, options_stand_freely};
 pub use merging::Merging;
 pub use reading::{WordsFault, read};
-pub use worked::{analyse_takes_what_its_words_say, commands_take_their_words};
+pub use worked::{analyse_takes_what_its_words_say, commands_take_their_words, roots_are_names};

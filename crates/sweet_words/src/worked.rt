@@ -1,10 +1,11 @@
 //! Command lines, worked out apart from the definitions.
 
-ghost use Rattle.std.specs.Prelude.{◌≡◌, [], ◌∷◌, codes, Some, None, true, false};
+ghost use Rattle.std.specs.Prelude.{◌≡◌, [], ◌∷◌, codes, replicate, Some, None, true, false};
 ghost use Rattle.sweet_words.specs.declared.merging.Merging.TheVariants.{Never, Exits, Joins};
 ghost use Rattle.sweet_words.specs.Commands.{Analyse, Check, Replay, Lower, Print, Run, Generate, Migrate, Cache};
 ghost use Rattle.sweet_words.specs.Commands.{Worst, Tasks, command_of};
 ghost use Rattle.sweet_words.specs.Files.{Alf, C};
+ghost use Rattle.sweet_words.specs.Roots.{name_or_main};
 
 /// What the words of `analyse` leave out is `main`, no files, 100,000 turns, merging everywhere, 1,000 pivots and
 /// no certificate.
@@ -42,6 +43,7 @@ pub fn analyse_takes_what_its_words_say()
     ensures most { command_of (codes "analyse" ∷ codes "p.alf" ∷ codes "--turns" ∷ codes "1000001" ∷ []) ≡ None }
     ensures pivots { command_of (codes "analyse" ∷ codes "p.alf" ∷ codes "--pivots" ∷ codes "4001" ∷ []) ≡ None }
     ensures file { command_of (codes "analyse" ∷ []) ≡ None }
+    ensures quoted { command_of (codes "analyse" ∷ codes "p.alf" ∷ codes "--root" ∷ codes "a\"b" ∷ []) ≡ None }
 {}
 
 /// Each command takes its files in their order, and `lower` a file of C alone.
@@ -103,4 +105,18 @@ pub fn commands_take_their_words()
         })) }
     ensures tasks { command_of (codes "tasks" ∷ codes "t" ∷ []) ≡ Some (Tasks (codes "t")) }
     ensures unknown { command_of (codes "analyze" ∷ codes "p" ∷ []) ≡ None }
+{}
+
+/// The root may be a name of 1 to 64 printable bytes without a quotation mark and a backslash.
+pub fn roots_are_names()
+    ensures absent { name_or_main None ≡ Some (codes "main") }
+    ensures named { name_or_main (Some (codes "f ~!g")) ≡ Some (codes "f ~!g") }
+    ensures empty { name_or_main (Some []) ≡ None }
+    ensures longest { name_or_main (Some (replicate 64 126)) ≡ Some (replicate 64 126) }
+    ensures long { name_or_main (Some (replicate 65 126)) ≡ None }
+    ensures line_feed { name_or_main (Some (120 ∷ 10 ∷ 121 ∷ [])) ≡ None }
+    ensures control { name_or_main (Some (31 ∷ [])) ≡ None }
+    ensures quote { name_or_main (Some (34 ∷ [])) ≡ None }
+    ensures backslash { name_or_main (Some (92 ∷ [])) ≡ None }
+    ensures high { name_or_main (Some (127 ∷ [])) ≡ None }
 {}

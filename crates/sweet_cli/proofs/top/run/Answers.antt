@@ -4,7 +4,7 @@ use Rattle.command_plans.specs.Outcome.{ending_text}
 use Rattle.command_plans.specs.Log.{log_of}
 use Rattle.command_plans.specs.Run.{Wrote, ending_of}
 use Rattle.sweet_cli.specs.Table.{task_of}
-use Rattle.sweet_cli.proofs.Promises.{promised, no_failed_read, read_failed, settle}
+use Rattle.sweet_cli.proofs.Promises.{promised, no_failed_read, settle}
 use Rattle.sweet_cli.proofs.top.run.Goals as goal
 
 pub returns-in-Ok-clause-promised : goal.returns-in-Ok-clause-promised
@@ -21,7 +21,3 @@ returns-in-Ok-clause-settled g c =
     λ reads writes. inr (settle (task_of (map string_bytes c.args.words.now)).work (g.F.Shelf.state c.args.shelf.now).files (log_of (g.F.Shelf.state c.args.shelf.now))
     (ending_of c.in-Some.answer) (log_of (g.F.Shelf.state c.words_answer.new.shelf)) c.status.result (g.W.Sink.state c.args.out.now) (g.W.Sink.state c.write_all.new.self)
     c.in-Some.ensures.due.due (no_failed_read _ (g.F.Shelf.state c.args.shelf.now) (g.F.Shelf.state c.words_answer.new.shelf) c.in-Some.ensures.due.unread reads) c.status.ensures wrote)
-
-pub returns-in-Ok-clause-unread : goal.returns-in-Ok-clause-unread
-returns-in-Ok-clause-unread g c =
-    λ failed. read_failed (ending_of c.in-Some.answer) (g.F.Shelf.state c.args.shelf.now) (g.F.Shelf.state c.words_answer.new.shelf) (sym c.status.ensures ∙ failed) c.in-Some.ensures.due.unread

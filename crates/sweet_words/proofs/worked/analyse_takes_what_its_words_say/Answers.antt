@@ -25,3 +25,7 @@ returns-clause-pivots c = refl
 pub returns-clause-file : goal.returns-clause-file
 unfolding Rattle.sweet_words.specs.Given.given Rattle.std.specs.Str.chars
 returns-clause-file c = refl
+
+pub returns-clause-quoted : goal.returns-clause-quoted
+unfolding Rattle.sweet_words.specs.Given.given Rattle.std.specs.Str.chars
+returns-clause-quoted c = refl

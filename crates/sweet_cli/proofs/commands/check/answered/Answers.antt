@@ -13,7 +13,7 @@ use Rattle.command_plans.specs.Work.{IsOnly}
 use Rattle.command_files.specs.Seen.{scoped_of}
 use Rattle.sweet_cli.specs.Check.{CheckMeans, IsSoundOf}
 use Rattle.sweet_cli.proofs.JudgedChecks.{accepted_only, refused_only, check_of}
-use Rattle.sweet_cli.proofs.SoundChecks.{sound_of}
+use Rattle.sweet_cli.proofs.SoundChecks.{shaped_of, sound_of}
 use Rattle.sweet_cli.proofs.commands.check.answered.Goals as goal
 
 pub returns-in_ok-text-in-None-clause-means : goal.returns-in_ok-text-in-None-clause-means
@@ -41,8 +41,11 @@ returns-in_ok-text-in-None-clause-sound c =
     let report = reported c.args.report.now in
     let priced = c.requires.priced (seen checked) c.requires.graph in
     let sound = c.in_ok-found.ensures.sound c.in-None.is costs (c.requires.priced (seen checked) c.requires.graph) in
+    let parts = record { checked = checked; graph = graph; rows = c.as_slice-rows.result.now } in
+    let none = subst (λ (a : Option Objection). IsChecked stepped_by parts_order parts program.outline report a) c.in-None.is c.in_ok-found.ensures.answer in
+    let shaped = shaped_of stepped_by parts_order parts program.outline report none in
     subst (λ (l : List InputRow). IsSoundOf (seen checked) graph l costs report) c.as_slice-rows.ensures.value
-    (sound_of checked graph c.as_slice-rows.result.now costs program.outline report c.requires.outline priced sound)
+    (sound_of checked graph c.as_slice-rows.result.now costs program.outline report c.requires.outline shaped priced sound)
 
 pub returns-in_ok-line-in-Some-clause-means : goal.returns-in_ok-line-in-Some-clause-means
 returns-in_ok-line-in-Some-clause-means c =

@@ -1,9 +1,9 @@
 -- Laws of schedules by their events alone.
---   JobsMayBeReleased, NoOtherIsReleased     after each schedule a job is released exactly where none of its task was in the last period
---   TheHighestMayRun, NoOtherRuns            a task runs exactly where it has work left and no task of higher priority has
---   ItMayIdle, ItIdlesWithoutWork            the processor is idle exactly where no work is left
---   AllowedEventsAreSchedules                a list of events is a schedule exactly where each is allowed by those before it
---   WorkIsDoneInTime                         in each schedule a job's work is done in the response time of its task
+--   JobsMayBeReleased, NoOtherIsReleased   a job may be released just where none of its task was in the last period
+--   TheHighestMayRun, NoOtherRuns          a task may run just where it has work left and none of higher priority has
+--   ItMayIdle, ItIdlesWithoutWork          the processor may be idle just where no work is left
+--   AllowedEventsAreSchedules              events are a schedule just where each is allowed by those before it
+--   WorkIsDoneInTime                       in each schedule a job's work is done in its task's response time
 use Rattle.std.specs.Prelude.{◌≡◌, ◌≤◌, ◌+◌, ◌↔◌, ℕ, List, Some, take, drop, slice_get}
 use Rattle.cost_table.specs.declared.task_set.Task.{Task}
 use Rattle.cost_table.specs.Tasks.{AreTasks, IsTask}
@@ -47,7 +47,7 @@ AllowedEventsAreSchedules = (tasks : List Task) (events : List Event)
     → ((state : State) × Schedule tasks events state)
     ↔ ((n : ℕ) (event : Event) → slice_get events n ≡ Some event → IsAllowed tasks (take n events) event)
 
--- in each schedule, as long after a job's release as the response time of its task, all work of the task that was released up to then is done
+-- as long after a job's release as its task's response time, all work of the task that was released up to it is done
 abbrev pub WorkIsDoneInTime : Type 0
 WorkIsDoneInTime = (tasks : List Task) (events : List Event) (state : State) (n i work : ℕ) (task : Task) (time : ℕ)
     → AreTasks tasks

@@ -61,7 +61,8 @@ pub record MayRun (tasks : List Task) (events : List Event) (i : ℕ) : Type 0 w
   pub task : Task
   pub is : IsTask tasks i task
   pub work : done i events < released i events
-  pub highest : (k : ℕ) (other : Task) → IsTask tasks k other → other.priority < task.priority → released k events ≤ done k events
+  pub highest : (k : ℕ) (other : Task) → IsTask tasks k other → other.priority < task.priority
+      → released k events ≤ done k events
 
 -- the processor may be idle: no task has work that is not done
 abbrev pub MayIdle : List Event → Type 0

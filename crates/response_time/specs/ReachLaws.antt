@@ -1,9 +1,9 @@
 -- Laws that response times are exact: some schedule takes as long.
---   all_released k tasks           the events by which a job of each task is released, from task k on, with the task's whole cost
+--   all_released k tasks           a job of each task from task k on is released, with its whole cost
 --   StaysFor tasks i units         in a schedule that begins so, the job of task i is pending after so many units
 --   TimesAreReached                so it is for each time that is shorter than the task's response time
 --   LateTasksMissTheirDeadlines    and for the deadline of a task that is late
---   NoSmallerTimesHold             times in which each job of each schedule finishes are no smaller than the response times
+--   NoSmallerTimesHold             times in which each job finishes are no smaller than the response times
 use Rattle.std.specs.Prelude.{◌≡◌, ◌<◌, ◌≤◌, ℕ, suc, List, [], ◌∷◌, ◌++◌, Contains, slice_index}
 use Rattle.cost_table.specs.declared.task_set.Task.{Task}
 use Rattle.cost_table.specs.Tasks.{AreTasks, IsTask}

@@ -11,7 +11,11 @@ ghost use Rattle.response_time.specs.Worked.{numbered, due_at, three, nine, two,
 /// has one left, and after ten it is pending no more.
 pub fn a_job_is_pending_until_its_work_is_done()
     ensures nine { Schedule three nine
-        (record { time = 9; pending = record { task = 2; release = 0; left = 1 } ∷ []; last = Some 2 ∷ Some 1 ∷ Some 0 ∷ [] }) }
+        (record {
+          time = 9;
+          pending = record { task = 2; release = 0; left = 1 } ∷ [];
+          last = Some 2 ∷ Some 1 ∷ Some 0 ∷ [];
+        }) }
     ensures ten { Schedule three (nine ++ Run 2 ∷ [])
         (record { time = 10; pending = []; last = Some 2 ∷ Some 1 ∷ Some 0 ∷ [] }) }
     ensures units { units nine ≡ 9 }
@@ -38,7 +42,8 @@ pub fn the_higher_and_the_earlier_run_first()
     ensures earlier { IsStep two later_first (Run 0)
         (record { time = 3; pending = record { task = 0; release = 2; left = 1 } ∷ []; last = Some 2 ∷ None ∷ [] }) }
     ensures later { IsStep two later_first (Run 0)
-        (record { time = 3; pending = record { task = 0; release = 0; left = 1 } ∷ []; last = Some 2 ∷ None ∷ [] }) → ⊥ }
+        (record { time = 3; pending = record { task = 0; release = 0; left = 1 } ∷ []; last = Some 2 ∷ None ∷ [] })
+        → ⊥ }
 {}
 
 /// In 797 units the first of three tasks brings two jobs to the second, and no lower one brings any. The

@@ -1,8 +1,7 @@
 -- The low ends of ranges, and their words.
-use Rattle.std.proofs.Common.{◌≡◌, ◌≤◌, ◌==◌, ℕ, true, List, [], ◌∷◌, map, All, Contains, refl, ap, arith, rules}
+use Rattle.std.proofs.Common.{◌≡◌, ◌≤◌, ◌==◌, ℕ, true, List, [], ◌∷◌, map, Contains, refl, ap, arith, rules}
 use Rattle.std.specs.Int.Signed.{≤ℤ_refl}
-use Rattle.std.proofs.lemmas.List.Elements.{All-contains}
-use Rattle.lists.specs.MemberLaws.{all_members, first_member, further_member}
+use Rattle.lists.specs.MemberLaws.{first_member, further_member}
 use Rattle.lists.specs.TestLaws.{by_test}
 use Rattle.alf_ops.specs.TwosComplement.{word}
 use Rattle.alf_faults.specs.Sizes.{is_export_size}

@@ -20,7 +20,7 @@ use Rattle.c_lowered.specs.Programs.{lowered}
 use Rattle.c_lower.specs.Outcomes.{HaveUnitsOutcomes}
 use Rattle.command_plans.specs.declared.status.Status.{Status}
 use Rattle.command_plans.specs.declared.status.Status.TheVariants as statuses
-use Rattle.command_plans.specs.Outcome.{Cause, Usage, Source, Example, Unbounded, No, Unread, Ending, Finished, Stopped, status_of, unread_of, ending_status, ending_text, ending_unread}
+use Rattle.command_plans.specs.Outcome.{Cause, Usage, Source, Example, Unbounded, No, Unread, Ending, Finished, Stopped, status_of, ending_status, ending_text, ending_unread}
 use Rattle.command_plans.specs.Log.{Log, log_of}
 use Rattle.command_plans.specs.Work.{Work, IsOnly, EndsSo}
 use Rattle.command_plans.specs.Works.{Tells, Works}

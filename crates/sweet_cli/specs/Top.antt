@@ -2,7 +2,8 @@
 --   IsRun words status shelf later out now   a run with these words ends so, leaves the shelf so, and wrote so
 --   words_of arguments                       the words: all arguments but the first, which is the program's name
 --   IsUnreadCode why code                    the exit code where the arguments could not be read: 7 where memory ran out, and else 8
-use Rattle.std.specs.Prelude.{◌≡◌, ◌≢◌, ◌⊎◌, ℕ, List, drop, map, string_bytes, Some, IfSome, String}
+use Rattle.std.specs.Prelude.{◌≡◌, ◌≢◌, ◌⊎◌, ℕ, List, drop, map, string_bytes, IfSome, String}
+use Rattle.std.specs.declared.alloc.Global.{Global}
 use Rattle.std.specs.declared.io.Error.{Error}
 use Rattle.std.specs.declared.io.ErrorKind.TheVariants.{OutOfMemory}
 use Rattle.std.specs.IoError.{error_kind}
@@ -13,7 +14,7 @@ use Rattle.command_plans.specs.declared.status.Status.{Status}
 use Rattle.command_plans.specs.declared.status.Status.TheVariants as statuses
 use Rattle.command_plans.specs.Outcome.{Ending, ending_status, ending_text}
 use Rattle.command_plans.specs.Run.{Answers, IsAnswered, Wrote, CutShort, WroteNothing, IsAnswerOf}
-use Rattle.sweet_cli.specs.Task.{Task, KeepsPromise, Promised}
+use Rattle.sweet_cli.specs.Task.{KeepsPromise, Promised}
 use Rattle.sweet_cli.specs.Table.{task_of}
 
 -- a run with these words ends so, leaves the shelf so, and wrote so: each field is the clause of `run` of its name
@@ -32,7 +33,7 @@ pub record IsRun (words : List (List ℕ)) (status : Status) (shelf later : Shel
       ⊎ IfSome shelf.files (λ files. (text : List ℕ) × IsAnswerOf (task_of words).work files status text × Wrote text out now)
 
 -- all arguments but the first
-abbrev pub words_of : List String → List (List ℕ)
+abbrev pub words_of : List (String Global) → List (List ℕ)
 words_of arguments = map string_bytes (drop 1 arguments)
 
 -- the exit code where the arguments could not be read: one of them is not UTF-8, unless memory ran out

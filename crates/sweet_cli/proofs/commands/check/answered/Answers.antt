@@ -5,7 +5,7 @@ use Rattle.alf_check.specs.CheckedPrograms.{seen}
 use Rattle.alf_check.specs.Inputs.{KeepInputs}
 use Rattle.flow_facts.specs.Reports.{reported}
 use Rattle.memory_model.specs.SeenOrders.{parts_order}
-use Rattle.abstract_step.specs.Steppers.{stepped_by}
+use Rattle.abstract_step.specs.Steppers.{StepperParts, stepped_by}
 use Rattle.report_objections.specs.declared.objection.Objection.{Objection}
 use Rattle.report_objections.specs.Checks.{IsChecked}
 use Rattle.command_plans.specs.Outcome.{No}
@@ -41,7 +41,7 @@ returns-in_ok-text-in-None-clause-sound c =
     let report = reported c.args.report.now in
     let priced = c.requires.priced (seen checked) c.requires.graph in
     let sound = c.in_ok-found.ensures.sound c.in-None.is costs (c.requires.priced (seen checked) c.requires.graph) in
-    let parts = record { checked = checked; graph = graph; rows = c.as_slice-rows.result.now } in
+    let parts : StepperParts = record { checked = checked; graph = graph; rows = c.as_slice-rows.result.now } in
     let none = subst (λ (a : Option Objection). IsChecked stepped_by parts_order parts program.outline report a) c.in-None.is c.in_ok-found.ensures.answer in
     let shaped = shaped_of stepped_by parts_order parts program.outline report none in
     subst (λ (l : List InputRow). IsSoundOf (seen checked) graph l costs report) c.as_slice-rows.ensures.value

@@ -1,5 +1,7 @@
 """The changes, as they stand in the table beside this file."""
 
+import collections.abc
+import contextlib
 import dataclasses
 import pathlib
 import tomllib
@@ -18,13 +20,18 @@ class Change:
     refused: str | None = None
     proved: list[str] = dataclasses.field(default_factory=list)
 
-    def apply(self, crates: pathlib.Path) -> None:
-        """Writes the change into the file, which then has the new text where it had the old one, once."""
+    @contextlib.contextmanager
+    def made(self, crates: pathlib.Path) -> collections.abc.Iterator[None]:
+        """The file has the new text where it had the old one, once; afterwards it is as it was."""
         file = crates / self.file
         text = file.read_text(encoding="utf-8")
         if text.count(self.old) != 1:
             raise ValueError(f"{self.name}: {self.file} has its old text {text.count(self.old)} times")
         file.write_text(text.replace(self.old, self.new), encoding="utf-8")
+        try:
+            yield
+        finally:
+            file.write_text(text, encoding="utf-8")
 
 
 def changes() -> list[Change]:

@@ -29,13 +29,11 @@ def is_right(change: Change, answer: Answer) -> bool:
 
 def tried(change: Change, folder: pathlib.Path) -> bool:
     """Whether the change ends as the table says; the file is as it was afterwards."""
-    change.apply(folder / "crates")
-    try:
+    before = processor_seconds()
+    with change.made(folder / "crates"):
         answer = room.prove(folder)
-    finally:
-        room.restore(change.file, folder)
     if is_right(change, answer):
-        print(f"{change.name}: {told(answer)}", flush=True)
+        print(f"{change.name}: {told(answer)}, {processor_seconds() - before:.0f} s", flush=True)
         return True
     print(f"{change.name}: {told(answer)}, in place of {wanted(change)}\n{answer.text}", flush=True)
     return False
@@ -57,6 +55,7 @@ def main() -> int:
         if begun.status:
             print(f"prove: the crates are not proved as they stand\n{begun.text}")
             return 1
+        print(f"as they stand: proved, {processor_seconds():.0f} s", flush=True)
         table = changes()
         faults = sum(not tried(it, folder) for it in table)
     print(f"prove: {len(table)} changes, {faults} faults, {processor_seconds():.0f} processor seconds")

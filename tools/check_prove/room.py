@@ -1,4 +1,4 @@
-"""A copy of three crates and of what proves them, in which changes are tried."""
+"""A copy of crates and of what proves them, in which changes are tried."""
 
 import dataclasses
 import pathlib
@@ -7,9 +7,10 @@ import shutil
 import subprocess
 
 TOP = pathlib.Path(__file__).resolve().parent.parent.parent
-# The last stands on the others, so that it is proved with all of them.
-NAMED = {"lists": "", "whole_numbers": "", "progressions": "whole_numbers lists"}
-LAST = "progressions"
+# Two quick crates of the repository, and a small one that stands on them, so that it is proved with both.
+NAMED = {"lists": "", "whole_numbers": "", "above": "whole_numbers lists"}
+LAST = "above"
+SOURCE = pathlib.Path(__file__).with_name("above.txt")
 COPIED = ("tools/prove", "tools/building", "tools/proving", "bench/program.py")
 SECONDS = 3600
 
@@ -34,14 +35,13 @@ def copy_of(path: pathlib.Path, room: pathlib.Path) -> None:
 
 
 def fill(room: pathlib.Path) -> None:
-    for name in (*COPIED, *(f"crates/{it}" for it in NAMED)):
+    for name in (*COPIED, *(f"crates/{it}" for it in NAMED if it != LAST)):
         copy_of(TOP / name, room)
+    source = room / "crates" / LAST / "src"
+    source.mkdir(parents=True)
+    shutil.copy2(SOURCE, source / "lib.rt")
     lines = (f"{crate}: {below}\n" for crate, below in NAMED.items())
     (room / "crates.txt").write_text("".join(lines), encoding="ascii")
-
-
-def restore(file: str, room: pathlib.Path) -> None:
-    shutil.copy2(TOP / "crates" / file, room / "crates" / file)
 
 
 def prove(room: pathlib.Path) -> Answer:

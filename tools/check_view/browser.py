@@ -16,7 +16,7 @@ import typing
 # Of what the browser tells by itself these are kept.
 KEPT = ("Log.entryAdded", "Runtime.exceptionThrown", "Runtime.consoleAPICalled", "Network.requestWillBeSent")
 KEPT += ("Page.javascriptDialogOpening", "Page.windowOpen", "Audits.issueAdded", "Page.frameRequestedNavigation")
-SECONDS = 60
+SECONDS = 180
 HIGH = 20
 
 

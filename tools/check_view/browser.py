@@ -16,7 +16,7 @@ import typing
 # Of what the browser tells by itself these are kept.
 KEPT = ("Log.entryAdded", "Runtime.exceptionThrown", "Runtime.consoleAPICalled", "Network.requestWillBeSent")
 KEPT += ("Page.javascriptDialogOpening", "Page.windowOpen", "Audits.issueAdded", "Page.frameRequestedNavigation")
-SECONDS = 60
+SECONDS = 180
 HIGH = 20
 
 
@@ -35,10 +35,12 @@ def started(binary: str) -> collections.abc.Iterator["Browser"]:
     with tempfile.TemporaryDirectory(ignore_cleanup_errors=True) as profile:
         words = [binary, "--headless", "--remote-debugging-pipe", f"--user-data-dir={profile}", "--disable-gpu"]
         words += ["--no-first-run", "--disable-background-networking", "--disable-component-update", "--disable-sync"]
+        words += ["--disable-breakpad", "--disable-crash-reporter"]
         words += ["--disable-dev-shm-usage", "--host-resolver-rules=MAP * ~NOTFOUND", "--window-size=1400,4000"]
         # Root, as in a container, may run it only without its own walls. What it loads here was made here.
         words += ["--no-sandbox"] if os.geteuid() == 0 else []
-        process, told, heard = spawned(words)
+        # What it leaves behind when it is ended is removed with the profile.
+        process, told, heard = spawned(words, {**os.environ, "TMPDIR": profile})
         try:
             yield Browser(told, heard)
         finally:
@@ -49,7 +51,7 @@ def started(binary: str) -> collections.abc.Iterator["Browser"]:
             os.waitpid(process, 0)
 
 
-def spawned(words: list[str]) -> tuple[int, int, int]:
+def spawned(words: list[str], variables: dict[str, str]) -> tuple[int, int, int]:
     """A process that reads from its file 3 and writes to its file 4: its number, and the other ends of both."""
     read, told = os.pipe()
     heard, write = os.pipe()
@@ -57,7 +59,7 @@ def spawned(words: list[str]) -> tuple[int, int, int]:
     nothing = os.open(os.devnull, os.O_RDWR | os.O_CLOEXEC)
     actions = [(os.POSIX_SPAWN_DUP2, nothing, it) for it in (0, 1, 2)]
     actions += [(os.POSIX_SPAWN_DUP2, read, 3), (os.POSIX_SPAWN_DUP2, write, 4)]
-    process = os.posix_spawn(words[0], words, os.environ, file_actions=actions, setpgroup=0)
+    process = os.posix_spawn(words[0], words, variables, file_actions=actions, setpgroup=0)
     for it in (read, write, nothing):
         os.close(it)
     return process, told, heard

@@ -1,13 +1,10 @@
 -- Pools after events.
 --   pooled_is     pools are the same where their parts are
---   merged_fewer  a merge leaves one place less
 --   element_at    an element at a place within
 --   pool_opened, pool_kept   what every pool keeps, at the start and after an event
 --   placed_at     a place that is stepped meets the conditions
 --   alike_all     places that may be merged may be joined
 --   can_happen    the policy's choice is allowed
---   turn_less     each event leaves less to do
---   turn_steps    and not more steps than turns
 --   finished      where places are left or not, the run is that of the policy
 use Rattle.std.proofs.Common.{◌≡◌, ◌<◌, ◌≤◌, ◌+◌, ◌-◌, ◌*◌, ◌^◌, ℕ, zero, suc, List, [], ◌∷◌, ◌++◌, Bool, true, map, length, get_or, Contains, slice_get, slice_set, Some, inl, inr, refl, ap, sym, ◌∙◌, subst, arith, length-set}
 use Rattle.std.specs.Prelude.{slice_index, Result, Ok, Err, OnOk}
@@ -38,6 +35,7 @@ use Rattle.domain_core.specs.FaultSets.{either}
 use Rattle.domain_core.specs.declared.outline.NodeRow.{NodeRow}
 use Rattle.abstract_exec.specs.declared.explored.Explored.{Explored}
 use Rattle.abstract_exec.specs.declared.explored.Explored.TheVariants.{Closed, Left}
+use Rattle.abstract_exec.specs.TurnLaws.{merged_fewer, turn_steps}
 use Rattle.abstract_exec.specs.Explorations.{IsPool, IsLater, IsLeftIn, IsEnded, IsExplored}
 
 -- pools are the same where their parts are
@@ -51,14 +49,6 @@ pooled_is stepper o count spots others book other_book alarms others_told steppe
 pub on_ok_first : {A E : Type 0} (result : Result A E) (P Q : Type 0) → OnOk result (P × Q) → OnOk result P
 on_ok_first (Ok x) P Q both = both.0
 on_ok_first (Err fault) P Q both = tt
-
--- a merge leaves one place less
-pub merged_fewer : {X : Type 0} (xs : List X) (i j : ℕ) (x y : X) → slice_get xs j ≡ Some y
-    → length (remove (slice_set xs i x) j) + 1 ≡ length xs
-merged_fewer xs i j x y at =
-    let low = slice_get_within xs j y at in
-    let same = length-set xs i x in
-    length-remove (slice_set xs i x) j (omega arith) ∙ same
 
 -- the key at a place is the position there
 key_at_spot : {T R : Type 0} (spots : List (Spot T R)) (i : ℕ) (spot : Spot T R) → slice_get spots i ≡ Some spot
@@ -87,33 +77,6 @@ placed_later o m z early later spot more placed =
     }
 
 module _ {S T C R B : Type 0} (machine : S → Machine T C) (states : Order T) (recorders : Order R) (z : Recording R B) where
-  -- how much there is left to do
-  abbrev pub left_to_do : ℕ → Pooled S T R B → ℕ
-  left_to_do turns w = (turns - w.steps) * 2 ^ 32 + length w.spots
-
-  -- each event leaves less
-  pub turn_less : (turns : ℕ) (old new : Pooled S T R B) (event : Event)
-      → Happens machine states recorders z old event new → length new.spots < 2 ^ 32 → old.steps < turns
-      → left_to_do turns new < left_to_do turns old
-  turn_less turns old new (Step i) (spot, found, is) few low =
-      let e : new.steps ≡ old.steps + 1 = ap (λ (w : Pooled S T R B). w.steps) is in
-      omega arith
-  turn_less turns old new (Merge i j) (a, b, before, first, second, same, is) few low =
-      let e : new.steps ≡ old.steps = ap (λ (w : Pooled S T R B). w.steps) is in
-      let less = merged_fewer old.spots i j (met states recorders a b) b second in
-      let f : length new.spots ≡ length (remove (slice_set old.spots i (met states recorders a b)) j) = ap (λ (w : Pooled S T R B). length w.spots) is in
-      omega arith
-
-  -- and not more steps than turns
-  pub turn_steps : (turns : ℕ) (old new : Pooled S T R B) (event : Event)
-      → Happens machine states recorders z old event new → old.steps < turns → new.steps ≤ turns
-  turn_steps turns old new (Step i) (spot, found, is) low =
-      let e : new.steps ≡ old.steps + 1 = ap (λ (w : Pooled S T R B). w.steps) is in
-      omega arith
-  turn_steps turns old new (Merge i j) (a, b, before, first, second, same, is) low =
-      let e : new.steps ≡ old.steps = ap (λ (w : Pooled S T R B). w.steps) is in
-      omega arith
-
   -- a pool at its start has what every pool keeps
   pub pool_opened : (stepper : S) (o : Outlined) → IsMachine T C states (machine stepper) → IsRecording R B recorders z
       → (machine stepper).kept → IsSuited z o → IsAlong T C (shape_of o) (machine stepper)
@@ -261,10 +224,12 @@ module _ {S T C R B : Type 0} (machine : S → Machine T C) (states : Order T) (
       omega (arith, placed.in_range, here.one_each, long)
 
 module _ {S T C R B : Type 0} (machine : S → Machine T C) (states : Order T) (recorders : Order R) (z : Recording R B) where
+  abbrev pub IsAllowed : Event → Pooled S T R B → Type 0
+  IsAllowed event w = ((v : Pooled S T R B) → Happens machine states recorders z w event v → ⊥) → ⊥
+
   -- the policy's choice is no bad event
   pub is_allowed : (policy : Policy) (w : Pooled S T R B) (event : Event)
-      → IsChoice (shape_of w.outline) policy w.spots event
-      → ((v : Pooled S T R B) → Happens machine states recorders z w event v → ⊥) → ⊥
+      → IsChoice (shape_of w.outline) policy w.spots event → IsAllowed event w
   is_allowed policy w event choice none = let can = can_happen machine states recorders z policy w event choice in none can.0 can.1
 
 -- what the turns of an exploration keep

@@ -2,3 +2,4 @@
 -- The files here, each after those that it cites.
 pub mod Points
 pub mod Explorations
+pub mod TurnLaws

@@ -182,12 +182,37 @@ impl<'a, S: Stepper, R: Recorder> Pool<'a, S, R> {
             (λ event. Happens S.machine S.State.order R.order R.recording self.old event self.new) }
         ensures kept { OnOk result (IsPool S.machine R.recording self.new) }
     {
-        let event = next_event(&mut self.places, points)?;
+        let event = self.choose(policy, points)?;
         match self.apply(alloc, event) {
             Ok(()) => Ok(event),
             Err(ExecFault::Memory) => Err(AllocError),
             Err(ExecFault::BadEvent) => unreachable!(),
         }
+    }
+
+    /// For each node whether it is a merge point of the policy.
+    pub fn merge_points(&self, alloc: Global, policy: Policy) -> Result<Vec<bool>, AllocError>
+        ensures { IfOk result (λ points. AreMergePoints (shape_of self.now.outline) policy points.items) }
+    {
+        merge_points(alloc, self.outline, policy)
+    }
+
+    /// The policy's next event. No place changes.
+    ///
+    /// The flags are those that `merge_points` gives.
+    pub fn choose(&mut self, policy: Policy, points: &[bool]) -> Result<Event, AllocError>
+        requires kept { IsPool S.machine R.recording self.old }
+        requires some { 0 < length self.old.spots }
+        requires points { AreMergePoints (shape_of self.old.outline) policy points.now }
+        ensures choice { IfOk result (λ event. IsChoice (shape_of self.old.outline) policy self.old.spots event) }
+        ensures allowed { IfOk result
+            (λ event. ((w : Pooled S S.State R R.Book)
+            → Happens S.machine S.State.order R.order R.recording self.old event w → ⊥) → ⊥) }
+        ensures same { OnOk result (self.new ≡ self.old) }
+    {
+        // Read, so that it is known to be one of its type.
+        let _ = policy;
+        next_event(&mut self.places, points)
     }
 
     /// How an exploration by these events went.
@@ -223,6 +248,14 @@ impl<'a, S: Stepper, R: Recorder> Pool<'a, S, R> {
         ensures { slice_get (map (λ spot. spot.node) self.now.spots) place ≡ Some result }
     {
         self.places.at(place as usize).node
+    }
+
+    /// The state of a place.
+    pub fn state_at(&self, place: u32) -> &S::State
+        requires { place < length self.now.spots }
+        ensures { slice_get (map (λ spot. spot.state) self.now.spots) place ≡ Some result.now }
+    {
+        &self.places.at(place as usize).state
     }
 
     /// The book of what was collected.

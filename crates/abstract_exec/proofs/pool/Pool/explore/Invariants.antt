@@ -1,5 +1,6 @@
 -- What each turn of an exploration keeps.
-use Rattle.abstract_exec.proofs.Moves.{Explores, left_to_do}
+use Rattle.abstract_exec.specs.TurnLaws.{left_to_do}
+use Rattle.abstract_exec.proofs.Moves.{Explores}
 use Rattle.abstract_exec.proofs.pool.Pool.explore.Given as goal
 
 abbrev pub invariant-loop-alloc : goal.invariant-loop-alloc

@@ -1,0 +1,3 @@
+-- The files here.
+pub mod Sequences
+pub mod WorkedJobs

@@ -18,3 +18,5 @@ pub mod SummaryText
 pub mod NoLines
 pub mod ReportFaultLines
 pub mod TableLines
+-- what lines are worked out of
+pub mod Worked

@@ -42,6 +42,7 @@ pub use scope_lines::{irreducible_line, left_line};
 pub use summary_lines::summary_text;
 pub use table_lines::table_line;
 pub use worked::{
-    a_fault_has_one_word, answers_are_told_line_by_line, tables_are_refused_in_one_line,
+    a_fault_has_one_word, answers_are_told_line_by_line, nodes_are_told_by_their_names,
+    runs_are_told_line_by_line, tables_are_refused_in_one_line, times_boxes_and_numbers_are_told,
     what_speaks_against_a_report_has_its_line,
 };

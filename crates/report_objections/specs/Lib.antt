@@ -9,3 +9,4 @@ pub mod PathLaws
 pub mod SoundLaws
 pub mod OneLaws
 pub mod OwnLaws
+pub mod Worked

@@ -7,7 +7,7 @@
 //! - `checks`: `check`, of reports that are accepted and refused. `migrations`: `migrate`. `replays`: `replay`.
 //! - `worst`: boxes of inputs.
 //! - `caches`: runs with an instruction cache. `tasks`: response times.
-//! - `made`: programs that are made.
+//! - `made`: programs that are made. `sizes`: programs and runs of some size.
 //! - `damage`: files that are damaged or too long, reads and writes that fail.
 //! - `tables`, `cases`, `notation`, `programs`: tables of tests, words and files as text and what answers them, programs
 //!   in a short notation, and programs of C as ALF.
@@ -58,6 +58,8 @@ mod replays;
 mod reports;
 #[cfg(test)]
 mod runs;
+#[cfg(test)]
+mod sizes;
 #[cfg(test)]
 mod worst;
 

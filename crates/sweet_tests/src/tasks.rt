@@ -18,6 +18,8 @@ task=[{name="x",cost=9,period=4,deadline=4,priority=1},{name="y",cost=9,period=4
 task=[{name="x",cost=4,period=4,deadline=4,priority=1},{name="x",cost=1,period=9,deadline=9,priority=2}] => 4 no late "x";
 [[ => 2 fault 70 toml tasks;
 tasks=[] => 2 fault 71 key tasks -;
+// six tasks that leave 9 in 10^14 of the processor, and one of 1 unit, which is told late at once
+task=[{name="low",cost=1,period=4294967295,deadline=4294967295,priority=7},{name="a",cost=25,period=101,deadline=101,priority=1},{name="b",cost=15,period=116,deadline=116,priority=2},{name="c",cost=24,period=161,deadline=161,priority=3},{name="d",cost=10,period=177,deadline=177,priority=4},{name="e",cost=9,period=181,deadline=181,priority=5},{name="f",cost=71,period=193,deadline=193,priority=6}] => 4 no late "low";
 
 
 tasks t.toml
@@ -25,7 +27,10 @@ t.toml rows $0
 
 // as many as there may be, and one more; none has a key
 64 [[task]]; => 2 fault 71 key tasks 0;
-65 [[task]]; => 2 fault 13 limit tasks 65;"#;
+65 [[task]]; => 2 fault 13 limit tasks 65;
+// each of 64 tasks waits for those before it once, and the last one up to its deadline
+64 [[task]];name="t~";cost=1;period=64;deadline=64;priority=~; => 0 response "t0" 1;response "t1" 2;response "t2" 3;..;response "t62" 63;response "t63" 64;
+64 [[task]];name="t~";cost=1;period=63;deadline=63;priority=~; => 4 no late "t63";"#;
 
 #[test]
 fn a_tasks_file_has_its_answer(rt: HostRuntime) -> Result<(), Fail> {

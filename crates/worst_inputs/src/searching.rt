@@ -2,7 +2,7 @@
 
 ghost use Rattle.std.specs.Prelude.{◌≡◌, ◌<◌, IfOk, IfErr, OnOk};
 ghost use Rattle.std.specs.List.{All};
-ghost use Rattle.worst_inputs.specs.declared.bounder.Bounded.TheVariants.{At};
+ghost use Rattle.worst_inputs.specs.declared.bounder.Bounded.TheVariants.{At, Left};
 ghost use Rattle.worst_inputs.specs.Areas.{IsRange};
 ghost use Rattle.worst_inputs.specs.Boxes.{HasPointAtTop, IsSplit};
 ghost use Rattle.worst_inputs.specs.Searches.{seen_boxes, found_of, IsSearched, IsLeftOf, IsStoppedBy, IsFaultOf};
@@ -13,6 +13,17 @@ use crate::cuts::{cut, put};
 use crate::places::has_point_at_top;
 use crate::{Bounded, Bounder, Found, Range, SearchFault};
 use std::alloc::Global;
+
+// The bound, or where there is none: the answer is one of these two, and takes no memory.
+fn told(bounded: Bounded) -> Result<u64, u32>
+    ensures bound { IfOk result (λ bound. bounded ≡ At bound) }
+    ensures left { IfErr result (λ scope. bounded ≡ Left scope) }
+{
+    match bounded {
+        Bounded::At(bound) => Ok(bound),
+        Bounded::Left(scope) => Err(scope),
+    }
+}
 
 /// The area with its bound.
 fn bounded<B: Bounder>(
@@ -26,9 +37,9 @@ fn bounded<B: Bounder>(
     ensures left { IfErr result (IsLeftOf (B.bounding (B.named bounder.old)).answers area.items) }
     ensures unchanged { B.named bounder.new ≡ B.named bounder.old }
 {
-    match bounder.bound(alloc, &area)? {
-        Bounded::At(bound) => Ok((area, bound)),
-        Bounded::Left(scope) => Err(SearchFault::Left(scope)),
+    match told(bounder.bound(alloc, &area)?) {
+        Ok(bound) => Ok((area, bound)),
+        Err(scope) => Err(SearchFault::Left(scope)),
     }
 }
 

@@ -21,3 +21,15 @@ returns-clause-range c = refl
 pub returns-clause-cell : goal.returns-clause-cell
 unfolding Rattle.std.specs.Fmt.digits
 returns-clause-cell c = refl
+
+pub returns-clause-limit : goal.returns-clause-limit
+unfolding Rattle.std.specs.Fmt.digits
+returns-clause-limit c = refl
+
+pub returns-clause-syntax : goal.returns-clause-syntax
+unfolding Rattle.std.specs.Fmt.digits
+returns-clause-syntax c = refl
+
+pub returns-clause-number : goal.returns-clause-number
+unfolding Rattle.std.specs.Fmt.digits
+returns-clause-number c = refl

@@ -11,6 +11,7 @@
 mod leaving;
 
 // Counts in a whole run.
+mod ends;
 mod few;
 mod small;
 mod span_list;

@@ -4,7 +4,7 @@
 --   wide_scope, wide_none              past one scope, and where no scope is left
 use Rattle.std.specs.Prelude.{◌↔◌, ◌⊎◌, IsTrue, nat_lt}
 use Rattle.std.specs.List.{list_any}
-use Rattle.std.proofs.Common.{◌≡◌, ◌≢◌, ◌<◌, ◌≤◌, ◌+◌, ◌||◌, ℕ, List, [], ◌∷◌, Option, Bool, true, false, cond, length, get_or, refl, sym, ap, ◌∙◌, subst, arith, inl, inr}
+use Rattle.std.proofs.Common.{◌≡◌, ◌<◌, ◌≤◌, ◌+◌, ◌||◌, ℕ, List, [], ◌∷◌, Option, Bool, true, false, cond, length, refl, sym, ap, ◌∙◌, subst, arith, inl, inr}
 use Rattle.std.proofs.lemmas.Bool.{true≢false, lt-ltb, ltb-true}
 use Rattle.recorder_rules.specs.SpanLaws.{same_or_not, low_or_over}
 use Rattle.recorder_rules.specs.TallyRules.{key_at, is_at}
@@ -51,9 +51,9 @@ module _ (keys : List (Option ℕ)) (k : ℕ) (old : List (ℕ × ℕ)) where
       kept it = elim (low_or_over it.0 i) [
         | inl earlier ↦ left_holds b w (so_far.1 (it.0, earlier, it.2, it.3, it.4))
         | inr over ↦ elim (same_or_not it.0 i) [
-            | inl at ↦ right_holds b w (least ∙ lt-ltb 255 (span_at old i).0 (subst (λ (m : ℕ). 255 < (span_at old m).0) at it.4))
-            | inr apart ↦ absurd (true≢false (sym it.3 ∙ next.none it.0 (omega arith) it.1))
-          ]
+          | inl at ↦ right_holds b w (least ∙ lt-ltb 255 (span_at old i).0 (subst (λ (m : ℕ). 255 < (span_at old m).0) at it.4))
+          | inr apart ↦ absurd (true≢false (sym it.3 ∙ next.none it.0 (omega arith) it.1))
+        ]
       ]
 
   pub wide_all : (b : Bool) (i : ℕ) → length old ≤ i → (IsTrue b ↔ WideBelow keys k old i)

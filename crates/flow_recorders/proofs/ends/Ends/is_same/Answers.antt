@@ -1,5 +1,5 @@
 -- What is left to show of `is_same`.
-use Rattle.std.proofs.Common.{◌≡◌, ◌∙◌, ap, sym, subst, replicate, rules, List, ℕ, length}
+use Rattle.std.proofs.Common.{◌≡◌, ◌∙◌, ap, sym, subst, replicate, rules}
 use Rattle.std.specs.Prelude.{◌↔◌, IsTrue}
 use Rattle.flow_recorders.specs.SpanLists.{spans_in, IsSingle}
 use Rattle.flow_recorders.proofs.SpanLemmas.{only_replicate, zeros_count, zeros_iff, single_same}

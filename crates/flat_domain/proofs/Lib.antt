@@ -3,4 +3,3 @@ mod Operands
 mod Fitting
 mod Written
 pub mod FlatLemmas
-pub mod OperatorSizeLemmas

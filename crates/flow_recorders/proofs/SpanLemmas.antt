@@ -1,20 +1,23 @@
 -- Lists of spans that are kept as one number each.
 --   only_set, only_replicate   a span that is set, and as many of one
 --   zeros_only, zeros_set      numbers that are all 0, and spans of 0 of which one is set to 0
---   zeros_kept, zeros_same     so many spans of 0 are those of the numbers, and two lists of them are the same
+--   zeros_kept, zeros_count, zeros_iff   numbers that are all 0, where so many spans of 0 are kept
+--   only_same, single_same     the numbers of spans, and ends that have the same ones
 --   once_visited               numbers that are all 0, but for one that is 1
 --   same_joined                a list joined with itself
 --   room_only, room_least, room_most   there is room for one more
 --   visited_only, visited_small, visited_apart   one more at a place
 --   room_for_more              there is room at each place, where the greatest number is no limit
-use Rattle.std.proofs.Common.{◌≡◌, ◌<◌, ◌+◌, ◌-◌, ◌^◌, ℕ, zero, suc, List, ◌∷◌, map, length, get_or, set, replicate, refl, sym, ap, ◌∙◌, subst, arith}
+use Rattle.std.specs.Prelude.{◌↔◌}
+use Rattle.std.proofs.Common.{◌≡◌, ◌<◌, ◌+◌, ◌-◌, ◌^◌, ℕ, zero, suc, List, [], ◌∷◌, map, length, get_or, set, replicate, refl, sym, ap, ◌∙◌, subst, arith}
 use Rattle.std.proofs.Math.ListN.{get_or-map}
 use Rattle.std.proofs.lemmas.List.{map-set, get_or_read, length-map, length-replicate}
 use Rattle.recorder_rules.specs.GeneratedLaws.{generated_is}
 use Rattle.recorder_rules.specs.Spans.{span_of, one_more, greatest}
 use Rattle.recorder_rules.specs.SpanLaws.{spans_of, below_greatest}
 use Rattle.recorder_rules.specs.TotalRules.{span_at}
-use Rattle.flow_recorders.specs.SpanLists.{only}
+use Rattle.flow_recorders.specs.SpanLists.{only, spans_in, IsSingle}
+use Rattle.flow_recorders.specs.declared.ends.Ends.{Ends}
 
 -- a span that is set
 pub only_set : (xs : List ℕ) (i c : ℕ) → map only (set xs i c) ≡ set (map only xs) i (only c)
@@ -35,13 +38,32 @@ pub zeros_kept : (n : ℕ) (xs read : List ℕ) → n ≡ length read → read �
 zeros_kept n xs read count is zeros =
     ap (λ (m : ℕ). replicate {A = ℕ × ℕ} m (0, 0)) count ∙ sym (zeros_only read (length read) zeros) ∙ ap (λ (ys : List ℕ). map only ys) is
 
--- two lists of spans of 0 are the same
-pub zeros_same : (n : ℕ) (xs read : List ℕ) (a b : List (ℕ × ℕ)) → replicate n (0, 0) ≡ a → map only xs ≡ b
-    → length a ≡ length b → read ≡ xs → read ≡ replicate (length read) 0 → a ≡ b
-zeros_same n xs read a b is_a is_b long is zeros = sym is_a ∙ zeros_kept n xs read count is zeros ∙ is_b
+-- how many numbers there are, where as many spans of 0 are kept
+pub zeros_count : (n : ℕ) (xs : List ℕ) (a b : List (ℕ × ℕ)) → a ≡ replicate n (0, 0) → b ≡ map only xs
+    → length a ≡ length b → n ≡ length xs
+zeros_count n xs a b is_a is_b long =
+    sym (length-replicate n (0, 0)) ∙ sym (ap (λ (ys : List (ℕ × ℕ)). length ys) is_a) ∙ long ∙ ap (λ (ys : List (ℕ × ℕ)). length ys) is_b ∙ length-map xs only
+
+-- numbers that are all 0 are as many zeros
+pub zeros_iff : (n : ℕ) (xs read : List ℕ) (P : Type 0) → n ≡ length xs → read ≡ xs
+    → (P ↔ (read ≡ replicate (length read) 0)) → P ↔ (replicate {A = ℕ} n 0 ≡ xs)
+zeros_iff n xs read P count is same = (λ y. zeros ∙ sym (same.0 y) ∙ is, λ e. same.1 (is ∙ sym e ∙ zeros))
   where
-    count : n ≡ length read
-    count = sym (length-replicate n (0, 0)) ∙ ap (λ (ys : List (ℕ × ℕ)). length ys) is_a ∙ long ∙ sym (ap (λ (ys : List (ℕ × ℕ)). length ys) is_b) ∙ length-map xs only ∙ sym (ap (λ (ys : List ℕ). length ys) is)
+    zeros : replicate {A = ℕ} n 0 ≡ replicate (length read) 0
+    zeros = ap (λ (m : ℕ). replicate {A = ℕ} m 0) (count ∙ sym (ap (λ (ys : List ℕ). length ys) is))
+
+-- numbers are known from their spans
+numbers_of : (xs : List ℕ) → xs ≡ map (λ (s : ℕ × ℕ). s.0) (map only xs)
+numbers_of [] = refl
+numbers_of (x ∷ xs) = ap (λ (ys : List ℕ). x ∷ ys) (numbers_of xs)
+
+pub only_same : (xs ys : List ℕ) → map only xs ≡ map only ys → xs ≡ ys
+only_same xs ys e = numbers_of xs ∙ ap (λ (ss : List (ℕ × ℕ)). map (λ (s : ℕ × ℕ). s.0) ss) e ∙ sym (numbers_of ys)
+
+-- ends of one number each have the same spans where the numbers are the same
+pub single_same : (a b : Ends) (xs ys : List ℕ) (P : Type 0) → IsSingle a → IsSingle b → spans_in a ≡ map only xs
+    → spans_in b ≡ map only ys → (P ↔ (xs ≡ ys)) → P ↔ (IsSingle a × IsSingle b × (spans_in a ≡ spans_in b))
+single_same a b xs ys P one other is_a is_b same = (λ y. (one, other, is_a ∙ ap (λ (zs : List ℕ). map only zs) (same.0 y) ∙ sym is_b), λ h. same.1 (only_same xs ys (sym is_a ∙ h.2 ∙ is_b)))
 
 -- spans of 0, of which one is set to 0
 pub zeros_set : (n i : ℕ) → set (replicate n (0, 0)) i (0, 0) ≡ replicate {A = ℕ × ℕ} n (0, 0)

@@ -11,6 +11,7 @@
 mod leaving;
 
 // Counts in a whole run.
+mod ends;
 mod few;
 mod small;
 mod span_list;
@@ -32,6 +33,9 @@ mod loops;
 // Two recorders side by side.
 mod both;
 
+// Rows, worked out by hand.
+mod worked;
+
 pub use both::{Both, BothBook};
 pub use counted::Counted;
 pub use counts::{Counts, CountsBook, OtherNodes};
@@ -39,3 +43,4 @@ pub use leaving::left_scopes;
 pub use loops::{EachHeader, Loops, LoopsBook};
 pub use totals::{Totals, TotalsBook};
 pub use visits::{Visits, VisitsBook};
+pub use worked::{lists_have_room, wide_counts_are_past_a_byte};

@@ -1,13 +1,13 @@
 //! Lists of numbers below 256, as bytes.
 
-ghost use Rattle.std.specs.Prelude.{◌≡◌, IsTrue, IfOk, slice_index, slice_set, ◌<◌, ◌+◌, ◌-◌, ◌^◌, length, replicate};
+ghost use Rattle.std.specs.Prelude.{◌≡◌, ◌↔◌, IsTrue, IfOk, slice_index, slice_set, ◌<◌, ◌+◌, ◌-◌, ◌^◌, length, replicate};
 ghost use Rattle.flow_recorders.specs.SmallCounts.{AreSmall};
 
 use std::alloc::{AllocError, Global};
 
-/// True only where each number is below 256.
+/// Whether each number is below 256.
 pub fn are_small(counts: &[u32]) -> bool
-    ensures { IsTrue result → AreSmall counts.now }
+    ensures { IsTrue result ↔ AreSmall counts.now }
 {
     for count in counts {
         if *count > 255 {
@@ -17,9 +17,9 @@ pub fn are_small(counts: &[u32]) -> bool
     true
 }
 
-/// True only where each number is 0.
+/// Whether each number is 0.
 pub fn are_zeros(counts: &[u8]) -> bool
-    ensures { IsTrue result → counts.now ≡ replicate (length counts.now) 0 }
+    ensures { IsTrue result ↔ (counts.now ≡ replicate (length counts.now) 0) }
 {
     for count in counts {
         if *count > 0 {

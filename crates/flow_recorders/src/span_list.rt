@@ -1,32 +1,16 @@
 //! Lists of spans, of one number each while least and greatest are the same.
 
-ghost use Rattle.std.specs.Prelude.{◌≡◌, ◌-◌, ◌^◌, ◌<◌, length, map, replicate, slice_set, IfOk, OnOk, IsTrue};
+ghost use Rattle.std.specs.Prelude.{◌≡◌, ◌-◌, ◌^◌, ◌<◌, length, map, replicate, slice_set, nat_lt, IfOk, OnOk};
 ghost use Rattle.recorder_rules.specs.Spans.{one_more};
 ghost use Rattle.recorder_rules.specs.SpanLaws.{spans_of};
 ghost use Rattle.recorder_rules.specs.TotalRules.{span_at};
-ghost use Rattle.flow_recorders.specs.SmallCounts.{AreSmall};
 ghost use Rattle.flow_recorders.specs.SpanLists.{only, spans_in};
 
+use crate::ends::{Ends, small_ends, visited_once};
 use crate::few::{FewCounts, MOST_COUNTS};
-use crate::small::{are_small, are_zeros, narrowed, widened_by};
-use crate::spans::span;
+use crate::small::{are_small, widened_by};
 use std::alloc::{AllocError, Global};
 use std::marker::Model;
-
-/// The ends of spans. All forms have room in 32 bytes, beside the lists, which are pieces of memory of their own.
-#[derive(Drop)]
-enum Ends {
-    /// Of so many spans 0, which is both ends.
-    Zeros(usize),
-    /// Of up to 23 spans the one number that is both ends, below 256.
-    Few(FewCounts),
-    /// Of each span the one number that is both ends, below 256.
-    Narrow(Vec<u8>),
-    /// Of each span the one number that is both ends.
-    Same(Vec<u32>),
-    /// Of each span the least and the greatest number.
-    Apart(Vec<(u32, u32)>),
-}
 
 /// A list of spans. Until spans that differ are joined it keeps one number for each, and that in a byte until one of
 /// them is past 255. While all are 0 it may keep only how many there are.
@@ -42,55 +26,6 @@ impl Model for SpanList {
     ghost Value = { List (ℕ × ℕ) };
 
     ghost view = { λ list. spans_in list.ends };
-}
-
-/// The span of the number of a byte.
-fn of_byte(count: u8) -> (u32, u32)
-    ensures { result ≡ only count }
-{
-    (count as u32, count as u32)
-}
-
-/// The ends of spans of these numbers, and how many they are where all are 0.
-fn byte_ends(counts: Vec<u8>) -> Ends
-    ensures { spans_in result ≡ map only counts.items }
-{
-    if are_zeros(&counts) {
-        return Ends::Zeros(counts.len());
-    }
-    Ends::Narrow(counts)
-}
-
-/// The ends of spans of the same numbers.
-fn narrow_copied(alloc: Global, counts: &[u8]) -> Result<Ends, AllocError>
-    ensures { IfOk result (λ ends. spans_in ends ≡ map only counts.now) }
-{
-    if are_zeros(counts) {
-        return Ok(Ends::Zeros(counts.len()));
-    }
-    Ok(Ends::Narrow(Vec::from_slice(alloc, counts)?))
-}
-
-/// The ends of so many spans of 0 alone, but for one of 1 alone at a place.
-fn visited_once(alloc: Global, count: usize, i: usize) -> Result<Ends, AllocError>
-    requires { i < count }
-    ensures { IfOk result (λ ends. spans_in ends ≡ slice_set (replicate count (0, 0)) i (1, 1)) }
-{
-    let mut counts = vec![in alloc; 0u8; count]?;
-    counts[i] = 1;
-    Ok(Ends::Narrow(counts))
-}
-
-/// The ends of spans of numbers below 256.
-fn small_ends(alloc: Global, counts: &[u32]) -> Result<Ends, AllocError>
-    requires { AreSmall counts.now }
-    ensures { IfOk result (λ ends. spans_in ends ≡ map only counts.now) }
-{
-    if counts.len() <= MOST_COUNTS {
-        return Ok(Ends::Few(FewCounts::of(counts)));
-    }
-    let bytes = narrowed(alloc, counts)?;
-    Ok(byte_ends(bytes))
 }
 
 impl SpanList {
@@ -135,13 +70,7 @@ impl SpanList {
     pub fn len(&self) -> usize
         ensures { result ≡ length self.now }
     {
-        match &self.ends {
-            Ends::Zeros(count) => *count,
-            Ends::Few(counts) => counts.as_slice().len(),
-            Ends::Narrow(counts) => counts.len(),
-            Ends::Same(counts) => counts.len(),
-            Ends::Apart(spans) => spans.len(),
-        }
+        self.ends.len()
     }
 
     /// The span at a place.
@@ -149,13 +78,7 @@ impl SpanList {
         requires { i < length self.now }
         ensures { result ≡ span_at self.now i }
     {
-        match &self.ends {
-            Ends::Zeros(_) => (0, 0),
-            Ends::Few(counts) => of_byte(counts.as_slice()[i]),
-            Ends::Narrow(counts) => of_byte(counts[i]),
-            Ends::Same(counts) => (counts[i], counts[i]),
-            Ends::Apart(spans) => spans[i],
-        }
+        self.ends.at(i)
     }
 
     /// The spans that have these ends, in place of those that it has.
@@ -207,15 +130,12 @@ impl SpanList {
         Ok(())
     }
 
-    /// True only where there is one number for each span, and that at the place takes more than a byte.
+    /// Whether the least number of the span at a place takes more than a byte.
     pub fn is_wide(&self, i: usize) -> bool
         requires { i < length self.now }
-        ensures { IsTrue result → 255 < (span_at self.now i).0 }
+        ensures { result ≡ nat_lt 255 (span_at self.now i).0 }
     {
-        match &self.ends {
-            Ends::Same(counts) => counts[i] > 255,
-            _ => false,
-        }
+        self.at(i).0 > 255
     }
 
     /// Lets the span at a place begin anew.
@@ -236,58 +156,16 @@ impl SpanList {
     pub fn copied(&self, alloc: Global) -> Result<SpanList, AllocError>
         ensures { IfOk result (λ copy. copy ≡ self.now) }
     {
-        let ends = match &self.ends {
-            Ends::Zeros(count) => Ends::Zeros(*count),
-            Ends::Few(counts) => Ends::Few(counts.copied()),
-            Ends::Narrow(counts) => narrow_copied(alloc, counts)?,
-            Ends::Same(counts) => Ends::Same(Vec::from_slice(alloc, counts)?),
-            Ends::Apart(spans) => Ends::Apart(Vec::from_slice(alloc, spans)?),
-        };
+        let ends = self.ends.copied(alloc)?;
         Ok(SpanList { ends })
     }
 
-    /// True only where both are the same, with one number for each span, in the same form or as bytes that are all 0.
-    fn is_same(&self, other: &SpanList) -> bool
-        requires { length self.now ≡ length other.now }
-        ensures { IsTrue result → self.now ≡ other.now }
-    {
-        match (&self.ends, &other.ends) {
-            (Ends::Zeros(count), Ends::Zeros(others)) => count == others,
-            (Ends::Zeros(_), Ends::Narrow(counts)) => are_zeros(counts),
-            (Ends::Narrow(counts), Ends::Zeros(_)) => are_zeros(counts),
-            (Ends::Few(counts), Ends::Few(others)) => counts.as_slice() == others.as_slice(),
-            (Ends::Narrow(counts), Ends::Narrow(others)) => counts == others,
-            (Ends::Same(counts), Ends::Same(others)) => counts == others,
-            _ => false,
-        }
-    }
-
-    /// The spans around those of both, one by one.
-    #[tactic(auto, using(crate::proofs::Steps::spans_more))]
-    fn around(&self, alloc: Global, other: &SpanList) -> Result<Vec<(u32, u32)>, AllocError>
-        requires { length self.now ≡ length other.now }
-        ensures { IfOk result (λ spans. spans.items ≡ spans_of self.now other.now) }
-    {
-        let count = self.len();
-        let mut found = Vec::with_capacity(alloc, count)?;
-        for i in 0..count {
-            found.push(span(self.at(i), other.at(i)))?;
-        }
-        Ok(found)
-    }
-
     /// The spans around those of both, one by one, as a list.
-    #[tactic(auto, using(crate::proofs::SpanLemmas::same_joined))]
     pub fn joined(&self, alloc: Global, other: &SpanList) -> Result<SpanList, AllocError>
         requires { length self.now ≡ length other.now }
         ensures { IfOk result (λ list. list ≡ spans_of self.now other.now) }
     {
-        if self.is_same(other) {
-            return self.copied(alloc);
-        }
-        let spans = self.around(alloc, other)?;
-        Ok(SpanList {
-            ends: Ends::Apart(spans),
-        })
+        let ends = self.ends.joined(alloc, &other.ends)?;
+        Ok(SpanList { ends })
     }
 }

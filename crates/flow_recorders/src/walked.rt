@@ -1,11 +1,11 @@
 //! What is changed at all numbers that have a key.
 
-ghost use Rattle.std.specs.Prelude.{◌≡◌, ℕ, ◌+◌, ◌-◌, ◌^◌, ◌<◌, length, Option, None, OnOk, if◌then◌else◌};
+ghost use Rattle.std.specs.Prelude.{◌≡◌, ℕ, ◌+◌, ◌-◌, ◌^◌, ◌<◌, ◌↔◌, length, Option, None, OnOk, IsTrue, if◌then◌else◌};
 ghost use Rattle.std.specs.List.{list_any};
 ghost use Rattle.recorder_rules.specs.Spans.{one_more, collected, greatest};
 ghost use Rattle.recorder_rules.specs.TotalRules.{span_at, spread_at};
 ghost use Rattle.recorder_rules.specs.TallyRules.{key_at, is_at, spread_after};
-ghost use Rattle.flow_recorders.specs.Walked.{AreChanged};
+ghost use Rattle.flow_recorders.specs.Walked.{AreChanged, HasWide};
 
 use crate::chains::Chains;
 use crate::span_list::SpanList;
@@ -31,6 +31,7 @@ fn reset_scope(chains: &Chains, scope: u32, spans: &mut SpanList) -> bool
     requires { length chains.now ≡ length spans.old }
     ensures same_length { length spans.new ≡ length spans.old }
     ensures reset { AreChanged chains.now scope (λ j. (0, 0)) (0, 0) spans.old spans.new }
+    ensures wide { IsTrue result ↔ HasWide chains.now (λ key. is_at key scope) spans.old }
 {
     let count = spans.len();
     let mut was_wide = false;
@@ -91,6 +92,7 @@ fn reset_all(chains: &Chains, scopes: &[u32], spans: &mut SpanList) -> bool
     ensures reset { (j : ℕ) → j < length spans.old
         → span_at spans.new j
         ≡ (if list_any (λ k. is_at (key_at chains.now j) k) scopes.now then (0, 0) else span_at spans.old j) }
+    ensures wide { IsTrue result ↔ HasWide chains.now (λ key. list_any (λ k. is_at key k) scopes.now) spans.old }
 {
     let mut was_wide = false;
     for scope in scopes {

@@ -1,4 +1,3 @@
 -- The files of this folder.
 mod WorkedRows
-pub mod CellLemmas
 pub mod MemoryProofLemmas

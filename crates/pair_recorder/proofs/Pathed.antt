@@ -1,8 +1,8 @@
 -- Laws of paths.
 --   entered-joined, met-joined, paired-joined   one node more
 --   entered_more, met_more, paired_more   and so along a path
---   below_joined, below_kept, own_joined, own_kept, within_joined   what holds of each node, with one more and with some taken out
---   below_at         a node of the path
+--   below_joined, below_kept, own_joined, own_kept   what holds of each node, with one more and with some taken out
+--   below_at, own_at   a node of the path
 --   any_paired       pairs with one of several scopes
 --   within_paired    all pairs, where each scope is among those
 --   own_met, own_paired   where each scope is the own scope of its node
@@ -29,7 +29,7 @@ or_nothing : (x : Bool) → (x || false) ≡ x
 or_nothing true = refl
 or_nothing false = refl
 
-eqb_itself : (n : ℕ) → (n == n) ≡ true
+pub eqb_itself : (n : ℕ) → (n == n) ≡ true
 eqb_itself n = eq-eqb n n refl
 
 pub eqb_turned : (m n : ℕ) → (m == n) ≡ (n == m)
@@ -116,19 +116,18 @@ pub own_joined : (o : Shape) (path : List Seen) (e : Seen) → AreOwn o path →
 own_joined o [] e own is = (is, tt)
 own_joined o (x ∷ path) e own is = (own.0, own_joined o path e own.1 is)
 
-pub within_joined : (path : List Seen) (e : Seen) (old new : List ℕ)
-    → ((t : ℕ) → list_any (λ s. t == s) old ≡ true → list_any (λ s. t == s) new ≡ true)
-    → list_any (λ s. e.scope == s) new ≡ true → AreWithin path old
-    → AreWithin (path ++ e ∷ []) new
-within_joined [] e old new kept is within = (is, tt)
-within_joined (x ∷ path) e old new kept is within = (kept x.scope within.0, within_joined path e old new kept is within.1)
-
 -- a node of the path
 pub below_at : (n : ℕ) (path : List Seen) (i : ℕ) (d : Seen) → AreBelow n path → i < length path
     → (get_or path i d).node < n
 below_at n [] i d below low = absurd (omega arith)
 below_at n (x ∷ path) zero d below low = below.0
 below_at n (x ∷ path) (suc i) d below low = below_at n path i d below.1 (omega arith)
+
+pub own_at : (o : Shape) (path : List Seen) (i : ℕ) (d : Seen) → AreOwn o path → i < length path
+    → own_of o (get_or path i d).node ≡ (get_or path i d).scope
+own_at o [] i d own low = absurd (omega arith)
+own_at o (x ∷ path) zero d own low = own.0
+own_at o (x ∷ path) (suc i) d own low = own_at o path i d own.1 (omega arith)
 
 -- ---- pairs with one of several scopes
 

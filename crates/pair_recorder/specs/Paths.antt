@@ -7,8 +7,10 @@
 --   AreBelow n path     each node is one of the first n
 --   AreOwn o path       each scope is the own scope of its node
 --   AreWithin path scopes   each scope is one of those
+--   with_scope scopes t   the scopes, and t after them where it is not among them
+--   scopes_in path      the scopes of the path, each once, in the order in which they are met first
 --   IsSmall o           numbers of nodes and scopes have 16 bits
-use Rattle.std.specs.Prelude.{◌≡◌, ◌<◌, ◌≤◌, ℕ, List, [], ◌∷◌, Bool, true, false, ◌&&◌, ◌||◌, ◌==◌, length}
+use Rattle.std.specs.Prelude.{◌≡◌, ◌<◌, ◌≤◌, ℕ, List, [], ◌∷◌, ◌++◌, Bool, true, false, not, ◌&&◌, ◌||◌, ◌==◌, length, filter, if◌then◌else◌}
 use Rattle.std.specs.List.{list_any}
 use Rattle.domain_core.specs.Outlines.{Outlined, Shape}
 use Rattle.recorder_rules.specs.Generated.{generated}
@@ -54,6 +56,15 @@ AreOwn o (e ∷ path) = (own_of o e.node ≡ e.scope) × AreOwn o path
 abbrev pub AreWithin : List Seen → List ℕ → Type 0
 AreWithin [] scopes = Unit {0}
 AreWithin (e ∷ path) scopes = (list_any (λ s. e.scope == s) scopes ≡ true) × AreWithin path scopes
+
+-- the scopes, and t after them where it is not among them
+abbrev pub with_scope : List ℕ → ℕ → List ℕ
+with_scope scopes t = if list_any (λ s. t == s) scopes then scopes else scopes ++ t ∷ []
+
+-- the scopes of the path, each once, in the order in which they are met first
+abbrev pub scopes_in : List Seen → List ℕ
+scopes_in [] = []
+scopes_in (e ∷ path) = e.scope ∷ filter (λ s. not (s == e.scope)) (scopes_in path)
 
 -- numbers of nodes and scopes have 16 bits
 abbrev pub IsSmall : Outlined → Type 0

@@ -1,18 +1,18 @@
 //! Nodes in the order in which a run entered them.
 
-ghost use Rattle.std.specs.Prelude.{◌≡◌, ◌<◌, ◌++◌, ◌∷◌, [], ◌==◌, IsTrue, IfOk, OnOk, ℕ, true, length, filter, not};
+ghost use Rattle.std.specs.Prelude.{◌≡◌, ◌<◌, ◌++◌, ◌∷◌, [], ◌==◌, ◌↔◌, IsTrue, IfOk, OnOk, ℕ, length, filter, not};
 ghost use Rattle.std.specs.List.{list_any};
 ghost use Rattle.domain_core.specs.Outlines.{shape_of};
-ghost use Rattle.pair_recorder.specs.Paths.{AreBelow, AreOwn, AreWithin};
+ghost use Rattle.pair_recorder.specs.Paths.{AreBelow, AreOwn, with_scope, scopes_in};
 
 use crate::seen::{Seen, is_own, is_within};
 use domain_core::Outline;
 use std::alloc::{AllocError, Global};
 
-/// True only where each scope is the own scope of its node.
+/// Whether each scope is the own scope of its node.
 pub fn are_own(outline: &Outline, entries: &[Seen]) -> bool
     requires { AreBelow (length outline.now.nodes) entries.now }
-    ensures { IsTrue result → AreOwn (shape_of outline.now) entries.now }
+    ensures { IsTrue result ↔ AreOwn (shape_of outline.now) entries.now }
 {
     for seen in entries {
         if !is_own(outline, seen) {
@@ -43,9 +43,7 @@ pub fn leave_scopes(entries: &mut Vec<Seen>, scopes: &[u32])
 
 /// Adds the scope where it is not among them.
 fn add_scope(scopes: &mut Vec<u32>, seen: &Seen) -> Result<(), AllocError>
-    ensures added { OnOk result (list_any (λ s. seen.now.scope == s) scopes.new.items ≡ true) }
-    ensures kept { OnOk result
-        ((t : ℕ) → list_any (λ s. t == s) scopes.old.items ≡ true → list_any (λ s. t == s) scopes.new.items ≡ true) }
+    ensures { OnOk result (scopes.new.items ≡ with_scope scopes.old.items seen.now.scope) }
 {
     if !is_within(seen, scopes) {
         scopes.push(seen.scope as u32)?;
@@ -53,9 +51,9 @@ fn add_scope(scopes: &mut Vec<u32>, seen: &Seen) -> Result<(), AllocError>
     Ok(())
 }
 
-/// The scopes in which nodes were entered.
+/// The scopes in which nodes were entered, each once, in the order in which they are met first.
 pub fn scopes_of(alloc: Global, entries: &[Seen]) -> Result<Vec<u32>, AllocError>
-    ensures { IfOk result (λ scopes. AreWithin entries.now scopes.items) }
+    ensures { IfOk result (λ scopes. scopes.items ≡ scopes_in entries.now) }
 {
     let mut scopes = Vec::new(alloc);
     for seen in entries {

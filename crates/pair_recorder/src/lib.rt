@@ -21,4 +21,8 @@ mod seen;
 // The recorder.
 mod pairs;
 
+// Rows, worked out by hand.
+mod worked;
+
 pub use pairs::{Pairs, PairsBook};
+pub use worked::{paths_have_their_scopes, paths_of_outlines_are_paths};

@@ -1,11 +1,12 @@
 //! Which two nodes of a scope a run visits in one iteration of it.
 
-ghost use Rattle.std.specs.Prelude.{◌≡◌, ◌*◌, ◌<◌, ℕ, List, length, IfOk, OnOk};
+ghost use Rattle.std.specs.Prelude.{◌≡◌, ◌*◌, ◌<◌, ◌↔◌, ℕ, List, length, IfOk, OnOk};
 ghost use Rattle.domain_core.specs.Outlines.{Outlined, shape_of};
 ghost use Rattle.recorder_rules.specs.PairRules.{PairBook, both_seen, pair_recording, together};
 ghost use Rattle.recorder_rules.specs.BitWords.{words_for, AreOwned};
 ghost use Rattle.recorder_rules.specs.Seen.{pair_book};
-ghost use Rattle.pair_recorder.specs.Forms.{count_of, sighted, IsKept};
+ghost use Rattle.pair_recorder.specs.Forms.{count_of, sighted, IsKept, IsPath, IsPathOf};
+ghost use Rattle.pair_recorder.specs.Paths.{IsSmall};
 
 use crate::bits::{bits_begun, bits_finish, bits_go, bits_joined};
 use crate::path::{is_path_of, path_begun, path_bits, path_finish, path_goes};
@@ -108,6 +109,7 @@ fn joined(alloc: Global, first: &Form, second: &Form) -> Result<Form, AllocError
 fn copied(alloc: Global, form: &Form) -> Result<Form, AllocError>
     requires { IsKept form.now }
     ensures same { IfOk result (λ copy. sighted copy ≡ sighted form.now) }
+    ensures path { IfOk result (λ copy. IsPath copy ↔ IsPath form.now) }
     ensures kept { IfOk result IsKept }
 {
     match form {
@@ -116,9 +118,10 @@ fn copied(alloc: Global, form: &Form) -> Result<Form, AllocError>
     }
 }
 
-/// Node 0 alone is seen.
+/// Node 0 alone is seen, as a path where numbers have 16 bits.
 fn begun(alloc: Global, outline: &Outline) -> Result<Form, AllocError>
     ensures begun { IfOk result (λ form. sighted form ≡ pair_recording.first outline.now) }
+    ensures path { IfOk result (λ form. IsPath form ↔ IsSmall outline.now) }
     ensures kept { IfOk result IsKept }
 {
     let count = outline.node_count();
@@ -129,7 +132,7 @@ fn begun(alloc: Global, outline: &Outline) -> Result<Form, AllocError>
     }
 }
 
-/// A step.
+/// A step. What is a path of the outline stays one.
 fn step(
     alloc: Global,
     outline: &Outline,
@@ -155,6 +158,7 @@ fn step(
         ≡ pair_recording.gone_book outline.now (sighted form.old)
         (pair_book (length outline.now.nodes) s owned.now rows.old) from to) }
     ensures kept { IsKept form.new }
+    ensures path { OnOk result (IsPath form.new ↔ IsPathOf outline.now form.old) }
 {
     match form {
         Form::Path(count, path) => {

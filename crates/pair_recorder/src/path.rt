@@ -1,8 +1,9 @@
 //! A path: the nodes that a run has seen in the current iterations of their scopes, in order.
 
-ghost use Rattle.std.specs.Prelude.{◌≡◌, ◌*◌, ◌<◌, ◌==◌, ◌||◌, ℕ, List, not, length, filter, IsTrue, IfOk, OnOk};
+ghost use Rattle.std.specs.Prelude.{◌≡◌, ◌*◌, ◌<◌, ◌==◌, ◌||◌, ◌∷◌, [], ◌↔◌, ℕ, List, not, length, filter, IsTrue, IfOk, OnOk};
 ghost use Rattle.std.specs.List.{list_any};
 ghost use Rattle.domain_core.specs.Outlines.{Outlined, shape_of};
+ghost use Rattle.recorder_rules.specs.LoopRules.{own_of};
 ghost use Rattle.recorder_rules.specs.PairRules.{PairBook, pair_recording};
 ghost use Rattle.recorder_rules.specs.BitWords.{words_for, is_marked};
 ghost use Rattle.recorder_rules.specs.Seen.{pair_book};
@@ -22,6 +23,8 @@ pub fn path_begun(alloc: Global, outline: &Outline) -> Result<Vec<Seen>, AllocEr
     requires { IsSmall outline.now }
     ensures path { IfOk result
         (λ path. path_sightings (length outline.now.nodes) path.items ≡ pair_recording.first outline.now) }
+    ensures lone { IfOk result
+        (λ path. path.items ≡ record { node = 0; scope = own_of (shape_of outline.now) 0 } ∷ []) }
     ensures below { IfOk result (λ path. AreBelow (length outline.now.nodes) path.items) }
 {
     outline.kept();
@@ -30,11 +33,10 @@ pub fn path_begun(alloc: Global, outline: &Outline) -> Result<Vec<Seen>, AllocEr
     Ok(path)
 }
 
-/// True only where each node was entered in what is its own scope here.
+/// Whether each node was entered in what is its own scope here, and numbers have 16 bits.
 pub fn is_path_of(outline: &Outline, path: &[Seen]) -> bool
     requires { AreBelow (length outline.now.nodes) path.now }
-    ensures small { IsTrue result → IsSmall outline.now }
-    ensures own { IsTrue result → AreOwn (shape_of outline.now) path.now }
+    ensures { IsTrue result ↔ (IsSmall outline.now × AreOwn (shape_of outline.now) path.now) }
 {
     is_small(outline) && are_own(outline, path)
 }

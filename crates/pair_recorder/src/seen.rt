@@ -1,6 +1,6 @@
 //! A node as a path keeps it.
 
-ghost use Rattle.std.specs.Prelude.{◌≡◌, ◌<◌, ◌==◌, IsTrue, length};
+ghost use Rattle.std.specs.Prelude.{◌≡◌, ◌<◌, ◌==◌, ◌↔◌, IsTrue, length};
 ghost use Rattle.std.specs.List.{list_any};
 ghost use Rattle.domain_core.specs.Outlines.{shape_of};
 ghost use Rattle.recorder_rules.specs.LoopRules.{own_of};
@@ -16,9 +16,9 @@ pub(crate) struct Seen {
     pub scope: u16,
 }
 
-/// Numbers of nodes and scopes have 16 bits.
+/// Whether numbers of nodes and scopes have 16 bits.
 pub fn is_small(outline: &Outline) -> bool
-    ensures { IsTrue result → IsSmall outline.now }
+    ensures { IsTrue result ↔ IsSmall outline.now }
 {
     outline.node_count() <= 65536 && outline.scope_count() <= 65536
 }

@@ -1,5 +1,5 @@
 -- What is left to show of `are_zeros`.
-use Rattle.std.proofs.Common.{◌≡◌, ◌<◌, ◌+◌, ◌++◌, ◌∷◌, [], ℕ, List, take, length, get_or, replicate, ap, sym, ◌∙◌, arith}
+use Rattle.std.proofs.Common.{◌≡◌, ◌<◌, ◌+◌, ◌++◌, ◌∷◌, [], ℕ, List, take, length, get_or, replicate, ap, sym, refl, ◌∙◌, arith}
 use Rattle.std.proofs.lemmas.List.{take_all, take_more, replicate_more}
 use Rattle.flow_recorders.proofs.small.are_zeros.Goals as goal
 
@@ -13,6 +13,6 @@ pub loop-count-preserved : goal.loop-count-preserved
 loop-count-preserved c = zero_more c.args.counts.now c.loop-count.count-index (omega (arith, c.loop-count-test.true)) (omega (arith, c.if-count-gt0.false)) c.loop-count.invariant
 
 pub returns : goal.returns
-returns c = λ _.
+returns c =
     let all : c.loop-count.count-index ≡ length c.args.counts.now = omega (arith, c.loop-count-test.false) in
-    sym (take_all c.loop-count.count-index c.args.counts.now (omega arith)) ∙ c.loop-count.invariant ∙ ap (λ (n : ℕ). replicate n 0) all
+    (λ _. sym (take_all c.loop-count.count-index c.args.counts.now (omega arith)) ∙ c.loop-count.invariant ∙ ap (λ (n : ℕ). replicate n 0) all, λ _. refl)

@@ -1,13 +1,14 @@
 -- What is left to show of `path_bits`.
-use Rattle.std.proofs.Common.{◌≡◌, ◌+◌, ◌-◌, ◌*◌, ◌==◌, ◌||◌, ◌++◌, ℕ, Bool, List, take, drop, replicate, length, sym, ap, ◌∙◌, arith}
+use Rattle.std.proofs.Common.{◌≡◌, ◌+◌, ◌-◌, ◌*◌, ◌==◌, ◌||◌, ◌++◌, ℕ, Bool, List, take, drop, replicate, length, subst, sym, ap, ◌∙◌, arith}
 use Rattle.std.specs.Vec.{with_items}
 use Rattle.std.specs.List.{list_any}
 use Rattle.std.proofs.lemmas.List.{with_items_is, length-append, take-replicate, drop-replicate}
 use Rattle.recorder_rules.specs.BitWords.{words_for, is_marked}
 use Rattle.recorder_rules.specs.StepBitLaws.{none_marked}
-use Rattle.pair_recorder.specs.Paths.{entered, paired_in}
+use Rattle.pair_recorder.specs.Paths.{entered, paired_in, AreWithin}
 use Rattle.pair_recorder.proofs.Handed.{sightings_same}
 use Rattle.pair_recorder.proofs.Parted.{front_of, back_of}
+use Rattle.pair_recorder.proofs.ScopesIn.{within_scopes}
 use Rattle.pair_recorder.proofs.PathSteps.{marked_path}
 use Rattle.pair_recorder.proofs.path.path_bits.Goals as goal
 
@@ -35,4 +36,4 @@ returns-clause-bits c =
     ∙ c.in_ok-collect_scopes.ensures a b low inside
     ∙ ap (λ (t : Bool). t || list_any (λ s. paired_in (λ t. t == s) a b path) c.deref.result.now) (none_marked halves.result.1.now (n * w) made_rows (a * w) b)
     ∙ ap (λ (xs : List ℕ). list_any (λ s. paired_in (λ t. t == s) a b path) xs) c.deref.ensures.value)
-    c.in_ok-scopes.ensures
+    (subst (λ (ss : List ℕ). AreWithin path ss) (sym c.in_ok-scopes.ensures) (within_scopes path))

@@ -1,6 +1,6 @@
 -- What is left to show of `around`.
 use Rattle.recorder_rules.specs.Generated.{generated}
-use Rattle.flow_recorders.proofs.span_list.SpanList.around.Goals as goal
+use Rattle.flow_recorders.proofs.ends.Ends.around.Goals as goal
 
 pub loop-i-init : goal.loop-i-init
 unfolding generated

@@ -1,2 +1,0 @@
--- Laws of operator sizes.
-use Rattle.std.proofs.Common.{[]}

@@ -1,7 +1,0 @@
--- What is left to show of `narrow_copied`.
-use Rattle.std.proofs.Common.{refl, length}
-use Rattle.flow_recorders.proofs.SpanLemmas.{zeros_kept}
-use Rattle.flow_recorders.proofs.span_list.narrow_copied.Goals as goal
-
-pub returns-then-are_zeros : goal.returns-then-are_zeros
-returns-then-are_zeros c = zeros_kept (length c.args.counts.now) c.args.counts.now c.args.counts.now refl refl (c.are_zeros.ensures c.if-are_zeros.true)

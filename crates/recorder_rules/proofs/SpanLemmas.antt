@@ -1,4 +1,0 @@
--- On the way to the laws of span.
-use Rattle.std.proofs.Common.{[]}
-
--- ---- spreads

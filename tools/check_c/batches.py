@@ -71,7 +71,8 @@ def compared(rewritten, room):
     text, keys = SHAPE, []
     for i, it in enumerate(rewritten):
         kind = it.program.functions["main"]
-        for key, source, column in ((f"a{i}", it.source, 0), (f"b{i}", it.made, 1)):
+        made = it.program.endings.ending(it.made, "exit")
+        for key, source, column in ((f"a{i}", it.source, 0), (f"b{i}", made, 1)):
             keys.append(key)
             frames = [(f"{key}_{frame[column]}", frame[2]) for frame in it.frames()]
             text += prefixed(source, f"{key}_") + tail(key, f"{key}_main", kind, frames)

@@ -12,7 +12,8 @@ from in_profile.trial import SHAPE, built, difference, is_same, outcomes, tail
 
 WORDS = set("""auto break case char const continue default do double else enum extern float for goto if inline int long
 register restrict return short signed sizeof static struct switch typedef union unsigned void volatile while _Bool abort
-exit _exit __builtin_abort __builtin_trap _Alignas""".split())
+exit _exit __builtin_abort __builtin_trap _Alignas
+_Static_assert""".split())
 # Strings, characters, comments, names and numbers.
 PIECES = re.compile(
     r"""("(?:[^"\\\n]|\\.)*"|'(?:[^'\\\n]|\\.)*'"""

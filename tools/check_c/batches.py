@@ -12,7 +12,8 @@ from in_profile.trial import SHAPE, built, difference, is_same, outcomes, tail
 
 WORDS = set("""auto break case char const continue default do double else enum extern float for goto if inline int long
 register restrict return short signed sizeof static struct switch typedef union unsigned void volatile while _Bool abort
-exit _exit __builtin_abort __builtin_trap _Alignas""".split())
+exit _exit __builtin_abort __builtin_trap _Alignas
+_Static_assert""".split())
 # Strings, characters, comments, names and numbers.
 PIECES = re.compile(
     r"""("(?:[^"\\\n]|\\.)*"|'(?:[^'\\\n]|\\.)*'"""
@@ -71,7 +72,8 @@ def compared(rewritten, room):
     text, keys = SHAPE, []
     for i, it in enumerate(rewritten):
         kind = it.program.functions["main"]
-        for key, source, column in ((f"a{i}", it.source, 0), (f"b{i}", it.made, 1)):
+        made = it.program.endings.ending(it.made, "exit")
+        for key, source, column in ((f"a{i}", it.source, 0), (f"b{i}", made, 1)):
             keys.append(key)
             frames = [(f"{key}_{frame[column]}", frame[2]) for frame in it.frames()]
             text += prefixed(source, f"{key}_") + tail(key, f"{key}_main", kind, frames)

@@ -203,6 +203,21 @@ def stopped(number: signal.Signals, room: pathlib.Path) -> str:
         return f"a child goes on: {late}" if late else left(pathlib.Path(temporary))
 
 
+def stopped_trial(room: pathlib.Path) -> str:
+    """What is wrong with a call that is ended while the compiler is at work on a trial, or nothing: a compiler that is
+    ended leaves files of its own."""
+    text = "int x; int main(void) {" + "\nif (x & 1) x++; else x = x * 3;" * 600 + " return x; }"
+    with tempfile.TemporaryDirectory(dir=room) as folder, tempfile.TemporaryDirectory(dir=room) as temporary:
+        laid_out({"in.c": text}, pathlib.Path(folder))
+        begun = subprocess.Popen(words_of("in.c", "-o", "out.c", "--try"), cwd=folder, stderr=subprocess.DEVNULL,
+                                 env={**os.environ, "TMPDIR": temporary})
+        while begun.poll() is None and not any(pathlib.Path(temporary).rglob("cc*.[so]")):
+            time.sleep(0.01)
+        begun.send_signal(signal.SIGTERM)
+        status = begun.wait(SECONDS)
+        return left(pathlib.Path(temporary)) if status == 128 + signal.SIGTERM else f"status {status}"
+
+
 def working(folder: str) -> str:
     """A process of a compiler that has a folder among its words, if there is one."""
     for it in pathlib.Path("/proc").glob("[0-9]*/cmdline"):
@@ -245,5 +260,6 @@ def checks(room: pathlib.Path) -> collections.abc.Iterator[tuple[str, str]]:
     yield from pipes(room)
     for number in (signal.SIGTERM, signal.SIGINT, signal.SIGHUP):
         yield f"ended by {number.name}", stopped(number, room)
+    yield "ended by SIGTERM in a trial", stopped_trial(room)
     yield "standard error on a full disk", unread(room)
     yield from last_resorts(room)

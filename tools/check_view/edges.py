@@ -18,6 +18,22 @@ from view.program import TOP
 VIEWER = [sys.executable, str(TOP / "sweet-view")]
 PROGRAM = "int main(void) { return 0; }\n"
 OUT = b"/* 2 */ int main(void) {\n    /* 3 */ return 0;\n}\n"
+# As `sweet-c` writes an `exit`, with a division of the program's own beside it, or in place of it.
+ENDING = """int sweet_none, n;
+void sw_exit_4(int status)
+{{
+    {0};
+}}
+int main(void)
+{{
+    if (n > 3)
+        sw_exit_4(n);
+    return 7 / n;
+}}
+"""
+ANY = '[[input]]\nframe = "n"\noffset = 0\nsize = 32\nlow = 0\nhigh = 9\n'
+ENDINGS = {"sweet_none = 7 / sweet_none": (1, 1), "status = 7 / sweet_none": (0, 2),
+           "sweet_none = 8 / sweet_none": (0, 2)}
 GIVEN = b"/* as it was written */\nint main(void) {\n    return 0;\n}\n"
 SECONDS = 120
 
@@ -53,6 +69,17 @@ class Edges:
 
     def hold(self, what: str, is_so: bool) -> None:
         self.faults += [] if is_so else [what]
+
+    # -- what is told of alarms
+
+    def ends(self) -> None:
+        """A division that stands for `exit` is told so, and any other as one, by whatever name its function has."""
+        (self.room / "ending.toml").write_text(ANY, encoding="ascii")
+        for text, wanted in ENDINGS.items():
+            (self.room / "ending.c").write_text(ENDING.format(text), encoding="ascii")
+            ran = self.call("--text", "ending.c", "--inputs", "ending.toml")
+            found = tuple(ran.out.decode().count(it) for it in ("may end here by exit", "may divide by 0"))
+            self.hold(f"of {text!r} as an exit {found} alarms are told, and {wanted} are due", found == wanted)
 
     # -- what is written over
 
@@ -218,6 +245,7 @@ class Edges:
         self.hold("something is left where it was ended", sorted(os.listdir(self.room)) == before)
 
     def all(self) -> None:
+        self.ends()
         for part in (self.pages, self.links, self.streams, self.files, self.named_files, self.refusals, self.controls):
             part()
         self.ended()

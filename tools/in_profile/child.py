@@ -24,8 +24,11 @@ class Ran:
 
 
 def run(words: list[str], seconds: float, given: bytes = b"", most: int = MOST_WRITTEN,
-        folder: pathlib.Path | None = None) -> Ran:
-    """Runs a program on these bytes. It has so many seconds, and each of its files at most so many bytes."""
+        folder: pathlib.Path | None = None, temporary: pathlib.Path | None = None) -> Ran:
+    """Runs a program on these bytes, with a folder for what it leaves where it is ended.
+
+    It has so many seconds, and each of its files at most so many bytes.
+    """
 
     def limit() -> None:
         limits = {resource.RLIMIT_AS: MEMORY, resource.RLIMIT_FSIZE: most, resource.RLIMIT_CORE: 0}
@@ -38,6 +41,7 @@ def run(words: list[str], seconds: float, given: bytes = b"", most: int = MOST_W
         file.write(given)
         file.seek(0)
         how = {"stdin": file, "stdout": out, "stderr": err, "preexec_fn": limit, "cwd": folder}
+        how["env"] = {**os.environ, "TMPDIR": str(temporary)} if temporary else None
         status = waited(words, seconds, how)
         out.seek(0)
         err.seek(0)

@@ -30,4 +30,13 @@ class Endings:
 
     def definitions(self) -> list[str]:
         end = f"{self.program.fault()};" if self.functions else ""
+        return self.defined(end)
+
+    def defined(self, end: str) -> list[str]:
         return [f"\n{mark}void {name}(int status)\n{{\n    {mark}{end}\n}}" for name, mark in self.functions.values()]
+
+    def ending(self, text: str, function: str) -> str:
+        """The text of the program, where this function ends a run with the status in place of a division by 0."""
+        for plain, ended in zip(self.definitions(), self.defined(f"{function}(status);")):
+            text = text.replace(plain, ended, 1)
+        return f"void {function}(int);\n{text}" if self.functions else text

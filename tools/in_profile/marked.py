@@ -128,6 +128,8 @@ class Marked:
             return self.assembly(at)
         if it.text in WORDS:
             return self.dropped(at, at, WORDS[it.text])
+        if it.text == "_Alignas":
+            return self.dropped(at, self.closing.get(at + 1), "_Alignas, which changes where an object lies")
         self.name(it)
         return at + 1
 

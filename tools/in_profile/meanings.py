@@ -11,10 +11,11 @@ STRUCK_OUT = {
         no_sanitize no_sanitize_address no_sanitize_thread no_sanitize_undefined no_split_stack no_stack_limit
         no_stack_protector noclone noinline noipa nonnull noreturn nothrow pure retain returns_nonnull stack_protect
         visibility""",
-    "where an object lies, which no program of the profile can see": "aligned common nocommon",
+    "where an object lies, which no program of the profile can see": "common nocommon",
 }
 REFUSED = {
     "the size of a type": "mode packed vector_size",
+    "where an object lies": "aligned",
     "how bytes are read": "scalar_storage_order transparent_union",
     "which function is called, or which object is meant": "alias copy gnu_inline ifunc symver weak weakref",
     "what runs": "cleanup constructor destructor error interrupt naked returns_twice signal unavailable",

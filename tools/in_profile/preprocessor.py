@@ -97,7 +97,7 @@ def preprocessed(name: str, data: bytes) -> Text:
             (folder / header).write_text(text, encoding="ascii")
         # What stands in quotes is looked for here first.
         (folder / "empty").mkdir()
-        ran = run(words_of(folder, names), SECONDS, given, MOST + 1, folder / "empty")
+        ran = run(words_of(folder, names), SECONDS, given, MOST + 1, folder / "empty", folder)
     text = ran.out.decode("latin-1")
     if ran.status is None:
         raise Refusal(at_end(text, name, names, f"the preprocessor has no end in {SECONDS} seconds"))

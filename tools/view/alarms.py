@@ -1,6 +1,7 @@
 """The alarms of a report, at the parts of the source where the fault may come."""
 
 import dataclasses
+import re
 
 from view.alf_tree import Branch, branches_in
 from view.items import Item
@@ -15,6 +16,8 @@ WORDS = {
     "kind": "may use a number as a pointer, or a pointer as a number",
     "pointers": "may compare or subtract pointers into two objects",
 }
+# What ./sweet-c writes for `exit`: a function with this name, and this alone in it.
+EXIT, ENDS = re.compile(r"sw_exit_\d+(_sw\d+)?"), re.compile(r"(sweet_none\w*) = 7 / \1;?")
 DIVISIONS = ("s_div", "u_div", "s_mod", "u_mod")
 
 
@@ -29,7 +32,8 @@ class Alarm:
 
     @property
     def words(self) -> str:
-        return WORDS.get(self.cause, "may fault")
+        is_exit = self.cause == "divide" and all(is_exit_of(it) for it in self.nodes)
+        return "may end here by exit" if is_exit else WORDS.get(self.cause, "may fault")
 
 
 class Alarms:
@@ -59,6 +63,11 @@ class Alarms:
         tokens = sorted({token for it in items for token in it.strong}) or node.block.tokens
         lines = sorted({model.tokens[min(it.strong)].line for it in items}) or [node.block.home]
         return Alarm(cause, tokens, lines, [])
+
+
+def is_exit_of(node: Node) -> bool:
+    """Whether a division stands for an `exit` of the program that ./sweet-c was given."""
+    return bool(EXIT.fullmatch(node.block.function.name) and ENDS.fullmatch(node.block.text))
 
 
 def suspects_of(node: Node, cause: str) -> list[int]:

@@ -12,11 +12,11 @@ void add(int *restrict a, const int *restrict b, const int n) { for (int i = 0; 
 
 int f(void); int main(void) { int f(void); extern int g; return f() + g; } int g = 7; int f(void) { return 30; }
 
-int t[4] __attribute__((aligned(8))) = {1, 2, 3, 4}; int unused(int x __attribute__((unused))) { return 1; } int main(void) { return t[3] + unused(3); }
+int t[4] __attribute__((nocommon)) = {1, 2, 3, 4}; int unused(int x __attribute__((unused))) { return 1; } int main(void) { return t[3] + unused(3); }
 
 int x; int x; extern int x; int x = 6; int a[]; int a[3]; int main(void) { a[2] = x; return a[2] + sizeof a; }
 
-typedef int word __attribute__((aligned(4))); _Alignas(8) word a[2] = {1, 2}; word b __attribute__ ((__unused__ , aligned (16))) = 3; int main(void) { return a[1] + b + sizeof a; }
+typedef int word __attribute__((unused)); word a[2] = {1, 2}; word b __attribute__ ((__unused__ , deprecated ("x"))) = 3; int main(void) { return a[1] + b + sizeof a; }
 
 #pragma once
 #pragma GCC diagnostic push

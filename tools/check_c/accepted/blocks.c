@@ -13,3 +13,7 @@ int main(void) { int s = 0; { int a[2] = {1, 2}; s += a[1]; { int a[3] = {4, 5, 
 int main(void) { int a = 2, s = 0; while (a--) { int a = 10; s += a++; } for (int s = 0; s < 2; s++) ; return s; }
 
 int sw1 = 4, sw2 = 5; int f(int sw3) { return sw3 + 1; } int main(void) { int sw4 = f(sw1) + f(sw2); return sw4 * 10 + sw1; }
+
+int x = 1; int f(void) { return x; } int main(void) { int x = (x = 4, 5); return f() * 10 + x; }
+
+int x = 7; int main(void) { int s = 0; for (int x = (x = 2, x + 1); x < 9; x++) s += x; { int *p = (p = &s, p); *p += 1; } { unsigned char x = (x = 255, ++x) + 3; s = s * 10 + x; } return s * 10 + x; }

@@ -15,3 +15,5 @@ int main(void) { int x = -1; return (x < (int)sizeof(int)) * 2 + (x < sizeof(int
 int f(int *p, int a[9]) { return sizeof p + sizeof a + sizeof *p; } int main(void) { int x[2] = {0}; return f(x, x) + sizeof(long) + sizeof &x[1]; }
 
 int m[2][5]; int main(void) { return sizeof *m + sizeof **m + sizeof m / sizeof *m + sizeof(int[3][2]); }
+
+_Static_assert(sizeof(int) == 4 && sizeof(short[3]) == 6, "sizes"); int main(void) { _Static_assert(1, "one"); return sizeof(int); }

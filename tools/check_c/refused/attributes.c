@@ -51,3 +51,11 @@ int n; int main(void) {
 #pragma omp parallel for
   for (int i = 0; i < 4; i++) n++;
 _Pragma("nobody knows this") return n; }
+
+// 1: the attribute aligned, which changes where an object lies
+int t[4] __attribute__((aligned(8))) = {1, 2, 3, 4}; int unused(int x __attribute__((unused))) { return 1; } int main(void) { return t[3] + unused(3); }
+
+// 1: the attribute aligned, which changes where an object lies; 2: _Alignas, which changes where an object lies; 3: the attribute aligned, which changes where an object lies
+typedef int word __attribute__((aligned(4)));
+_Alignas(8) word a[2] = {1, 2};
+word b __attribute__ ((__unused__ , __aligned__ (16))) = 3; int main(void) { return a[1] + b + sizeof a; }

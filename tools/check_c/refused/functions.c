@@ -40,5 +40,11 @@ int f(a, b) int a; { return a; } int main(void) { return f(1, 2); }
 void f(void) { } int main(void) { int x = f();
   return f() + 1; }
 
-// 0: there is no function main
+// 1: there is no function main, which a run would start with (--root names another one)
 int f(void) { return 1; }
+
+// 3: there is no function main, which a run would start with (--root names another one)
+int x;
+extern int y; int y;
+static int f(void) { return 1; }
+int g(void) { return f(); }

@@ -139,3 +139,9 @@ int f(int x) { return x; } int main(void) { int s = 0;
   s += f(s) + 1;
   s += f(s) + 1;
   return s; }
+
+// 1: more than 8192 elements of arrays: 99999999; 2: more than 8192 elements of arrays: 2001000000; 3: more than 8192 elements of arrays: 1000000000000; 4: more than 8192 elements of arrays: 300000000
+int a[] = {[99999998] = 1};
+int b[2001][1000000] = {[2000] = {1}};
+int c[1000000][1000000];
+int main(void) { int d[300000000] = {1}; return d[0]; }

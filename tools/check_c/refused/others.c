@@ -32,3 +32,11 @@ int main(void) { return a[0]; }
 // 1: an array without a length; 2: an array without a length
 int a[4][]; int main(void) {
   int b[2][]; return 0; }
+
+// 2: a compound literal
+int f(int *p) { return p[1]; } int main(void) {
+  return f((int[]){1, 2}); }
+
+// 1: a static assertion that does not hold where int, long and pointers have 32 bits; 2: a static assertion that does not hold where int, long and pointers have 32 bits
+_Static_assert(sizeof(long) == 8, "a long of 64 bits");
+int main(void) { int *p; _Static_assert(sizeof p == 8, "a pointer of 64 bits"); return 1; }

@@ -1,2 +1,1 @@
 -- Laws of works.
-use Rattle.command_plans.specs.declared.stop.Stop.TheVariants as stops

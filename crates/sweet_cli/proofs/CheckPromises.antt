@@ -4,7 +4,7 @@
 --   accepted_shown what is answered then is that it is accepted
 --   checks_told    the text is that of the order of work
 --   tells_sound    and it keeps the promise
-use Rattle.std.proofs.Common.{◌≡◌, ◌≤◌, ℕ, List, Vec, Global, Ok, Option, None, Some, IfSome, ◌∙◌, subst, arith}
+use Rattle.std.proofs.Common.{◌≡◌, ◌≤◌, ℕ, List, Vec, Global, Ok, Option, None, Some, ◌∙◌, subst, arith}
 use Rattle.flow_base.specs.Outside.{Files}
 use Rattle.flow_base.specs.Shelves.{ShelfState}
 use Rattle.alf_check.specs.CheckedPrograms.{NumberedProgram}
@@ -14,6 +14,7 @@ use Rattle.cost_table.specs.CostTables.{CostTable}
 use Rattle.flow_facts.specs.Reports.{Reported}
 use Rattle.cost_table.specs.Laws.{RowsKeepTheRules}
 use Rattle.command_plans.specs.Log.{Log, log_of}
+use Rattle.command_plans.specs.Readings.{IsMadeOf, both_made, widened}
 use Rattle.command_plans.specs.Works.{Works}
 use Rattle.program_files.specs.Told.{IsToldProgram}
 use Rattle.command_files.specs.Scopes.{ScopedProgram, scoped_in}
@@ -31,9 +32,10 @@ told_report file files before report after (bytes, log, read, (spelled, same)) =
 
 -- a report that was read of told files, and is sound
 pub sound_told : (file : List ℕ) (told : Option Files) (before after : Log) (program : NumberedProgram) (graph : GraphParts) (rows : List InputRow) (costs : CostTable) (report : Reported)
-    → (report_in file).steps.Gives told before report after → IsSoundOf program graph rows costs report → IfSome told (λ files. IsSoundTold file files program graph rows costs)
-sound_told file None before after program graph rows costs report read sound = tt
-sound_told file (Some files) before after program graph rows costs report read sound = record { report = report; told = told_report file files before report after read; sound = sound }
+    → (report_in file).steps.Gives told before report after → IsSoundOf program graph rows costs report → IsMadeOf told before after (λ files. IsSoundTold file files program graph rows costs)
+sound_told file told before after program graph rows costs report read sound =
+    widened told before after (λ files. (report_in file).steps.Gives (Some files) before report after) (λ files. IsSoundTold file files program graph rows costs)
+    (λ files again. record { report = report; told = told_report file files before report after again; sound = sound }) ((report_in file).alone.gives told before report after read)
 
 -- what is answered then is that it is accepted
 pub accepted_shown : (file : List ℕ) (program : ScopedProgram) (tables : Tables) (told : Option Files) (before : Log) (text : List ℕ) (after : Log)
@@ -57,25 +59,36 @@ checks_told given before mid late end program tables text first same later secon
       later = omega (arith, later, later_again, later_still);
     }
 
+-- the files give these tables, and spell a report that is sound with them
+abbrev IsTabledSound : CheckWords → ScopedProgram → Tables → Log → Log → Files → Type 0
+IsTabledSound given program tables mid late files =
+    (tables_in program.expanded.program given.inputs given.costs).steps.Gives (Some files) mid tables late
+    × IsSoundTold given.report files program.expanded.program program.expanded.graph tables.rows tables.costs
+
 -- and it keeps the promise
-pub tells_sound : RowsKeepTheRules → (given : CheckWords) (told : Option Files) (before mid late : Log) (program : ScopedProgram) (tables : Tables) (text : List ℕ)
+pub tells_sound : RowsKeepTheRules → (given : CheckWords) (told : Option Files) (before mid late end : Log) (program : ScopedProgram) (tables : Tables) (text : List ℕ)
     → (scoped_in given.program given.root).steps.Gives told before program mid → (tables_in program.expanded.program given.inputs given.costs).steps.Gives told mid tables late
-    → IfSome told (λ files. IsToldProgram given.program given.root files program.expanded.program) → text ≡ accepted
-    → IfSome told (λ files. IsSoundTold given.report files program.expanded.program program.expanded.graph tables.rows tables.costs) → IfSome told (λ files. IsAccepted given files text)
-tells_sound law given None before mid late program tables text scopes read of shown sound = tt
-tells_sound law given (Some files) before mid late program tables text scopes read of shown sound =
+    → IsMadeOf told before mid (λ files. IsToldProgram given.program given.root files program.expanded.program) → text ≡ accepted
+    → IsMadeOf told late end (λ files. IsSoundTold given.report files program.expanded.program program.expanded.graph tables.rows tables.costs) → IsMadeOf told before end (λ files. IsAccepted given files text)
+tells_sound law given told before mid late end program tables text scopes read of shown sound =
     let expanded = program.expanded in
-    let both = told_tables expanded.program given.inputs given.costs files mid tables late read in
-    record {
-      program = expanded.program;
-      graph = expanded.graph;
-      rows = tables.rows;
-      costs = tables.costs;
-      program_told = of;
-      graph_is = told_graph given.program given.root (Some files) before program mid scopes;
-      rows_told = both.0;
-      rows_keep = inputs_keep law given.inputs files expanded.program tables.rows both.0;
-      costs_told = both.1;
-      shown = shown;
-      sound = sound;
-    }
+    let again = both_made told mid late end (λ files. (tables_in expanded.program given.inputs given.costs).steps.Gives (Some files) mid tables late)
+    (λ files. IsSoundTold given.report files expanded.program expanded.graph tables.rows tables.costs) (λ files. IsTabledSound given program tables mid late files)
+    ((tables_in expanded.program given.inputs given.costs).alone.gives told mid tables late read) sound (λ files told_so held. (told_so, held)) in
+    both_made told before mid end (λ files. IsToldProgram given.program given.root files expanded.program) (λ files. IsTabledSound given program tables mid late files)
+    (λ files. IsAccepted given files text) of again
+    (λ files program_told (told_so, held).
+        let both = told_tables expanded.program given.inputs given.costs files mid tables late told_so in
+        record {
+          program = expanded.program;
+          graph = expanded.graph;
+          rows = tables.rows;
+          costs = tables.costs;
+          program_told = program_told;
+          graph_is = told_graph given.program given.root told before program mid scopes;
+          rows_told = both.0;
+          rows_keep = inputs_keep law given.inputs files expanded.program tables.rows both.0;
+          costs_told = both.1;
+          shown = shown;
+          sound = held;
+        })

@@ -22,6 +22,7 @@ use Rattle.report_soundness.specs.ReportTold.{costs_of}
 use Rattle.report_objections.specs.declared.objection.Objection.{Objection}
 use Rattle.run_replays.specs.Replays.{Told, Asks, objects, passes, TellsRun, stops, ends, fault_of, TellEnd}
 use Rattle.command_plans.specs.Log.{Log, log_of}
+use Rattle.command_plans.specs.Readings.{IsMadeOf, both_made, widened}
 use Rattle.command_plans.specs.Works.{Works}
 use Rattle.program_files.specs.Told.{IsToldProgram}
 use Rattle.command_files.specs.Values.{values_told, values_in, AreValues}
@@ -92,12 +93,11 @@ told_numbers n None files before values after (only, same) = only.means
 told_numbers n (Some file) files before values after (bytes, log, read, (only, same)) = (bytes, read.2, only.means)
 
 -- so it is of the report and the values that were read of told files
-pub held_told : (given : ReplayWords) (program : ScopedProgram) (tables : Tables) (told : Option Files) (before : Log) (text : List ℕ) (after : Log)
-    → (run_judged given program tables).steps.Gives told before text after
-    → IfSome told (λ files. IsHeldTold given files program.expanded.program program.expanded.graph tables.rows tables.costs text)
+held_over : (given : ReplayWords) (program : ScopedProgram) (tables : Tables) (files : Files) (before : Log) (text : List ℕ) (after : Log)
+    → (run_judged given program tables).steps.Gives (Some files) before text after
+    → IsHeldTold given files program.expanded.program program.expanded.graph tables.rows tables.costs text
 unfolding run_judged
-held_told given program tables None before text after gives = tt
-held_told given program tables (Some files) before text after (report, log, read, (values, late, numbers, (only, same))) =
+held_over given program tables files before text after (report, log, read, (values, late, numbers, (only, same))) =
     let held = only.means in
     record {
       report = report;
@@ -108,6 +108,15 @@ held_told given program tables (Some files) before text after (report, log, read
       holds = holds_of program.expanded.program program.expanded.graph tables.rows tables.costs report values held.cost held.holds;
       shown = held.line;
     }
+
+-- and over all files that hold what was read
+pub held_told : (given : ReplayWords) (program : ScopedProgram) (tables : Tables) (told : Option Files) (before : Log) (text : List ℕ) (after : Log)
+    → (run_judged given program tables).steps.Gives told before text after
+    → IsMadeOf told before after (λ files. IsHeldTold given files program.expanded.program program.expanded.graph tables.rows tables.costs text)
+held_told given program tables told before text after gives =
+    widened told before after (λ files. (run_judged given program tables).steps.Gives (Some files) before text after)
+    (λ files. IsHeldTold given files program.expanded.program program.expanded.graph tables.rows tables.costs text)
+    (λ files again. held_over given program tables files before text after again) ((run_judged given program tables).alone.gives told before text after gives)
 
 -- ---- the promise
 
@@ -127,24 +136,35 @@ replay_told given before mid late end program tables text first same later secon
       later = omega (arith, later, later_again, later_still);
     }
 
+-- the files give these tables, and a report and values of which the text tells that they hold with them
+abbrev IsTabledHeld : ReplayWords → ScopedProgram → Tables → Log → Log → List ℕ → Files → Type 0
+IsTabledHeld given program tables mid late text files =
+    (tables_in program.expanded.program given.inputs given.costs).steps.Gives (Some files) mid tables late
+    × IsHeldTold given files program.expanded.program program.expanded.graph tables.rows tables.costs text
+
 -- and it keeps the promise
-pub tells_replay : RowsKeepTheRules → (given : ReplayWords) (told : Option Files) (before mid late : Log) (program : ScopedProgram) (tables : Tables) (text : List ℕ)
+pub tells_replay : RowsKeepTheRules → (given : ReplayWords) (told : Option Files) (before mid late end : Log) (program : ScopedProgram) (tables : Tables) (text : List ℕ)
     → (scoped_in given.program given.root).steps.Gives told before program mid → (tables_in program.expanded.program given.inputs given.costs).steps.Gives told mid tables late
-    → IfSome told (λ files. IsToldProgram given.program given.root files program.expanded.program)
-    → IfSome told (λ files. IsHeldTold given files program.expanded.program program.expanded.graph tables.rows tables.costs text) → IfSome told (λ files. TellsReplay given files text)
-tells_replay law given None before mid late program tables text scopes read of held = tt
-tells_replay law given (Some files) before mid late program tables text scopes read of held =
+    → IsMadeOf told before mid (λ files. IsToldProgram given.program given.root files program.expanded.program)
+    → IsMadeOf told late end (λ files. IsHeldTold given files program.expanded.program program.expanded.graph tables.rows tables.costs text) → IsMadeOf told before end (λ files. TellsReplay given files text)
+tells_replay law given told before mid late end program tables text scopes read of held =
     let expanded = program.expanded in
-    let both = told_tables expanded.program given.inputs given.costs files mid tables late read in
-    record {
-      program = expanded.program;
-      graph = expanded.graph;
-      rows = tables.rows;
-      costs = tables.costs;
-      program_told = of;
-      graph_is = told_graph given.program given.root (Some files) before program mid scopes;
-      rows_told = both.0;
-      rows_keep = inputs_keep law given.inputs files expanded.program tables.rows both.0;
-      costs_told = both.1;
-      held = held;
-    }
+    let again = both_made told mid late end (λ files. (tables_in expanded.program given.inputs given.costs).steps.Gives (Some files) mid tables late)
+    (λ files. IsHeldTold given files expanded.program expanded.graph tables.rows tables.costs text) (λ files. IsTabledHeld given program tables mid late text files)
+    ((tables_in expanded.program given.inputs given.costs).alone.gives told mid tables late read) held (λ files told_so holds. (told_so, holds)) in
+    both_made told before mid end (λ files. IsToldProgram given.program given.root files expanded.program) (λ files. IsTabledHeld given program tables mid late text files)
+    (λ files. TellsReplay given files text) of again
+    (λ files program_told (told_so, holds).
+        let both = told_tables expanded.program given.inputs given.costs files mid tables late told_so in
+        record {
+          program = expanded.program;
+          graph = expanded.graph;
+          rows = tables.rows;
+          costs = tables.costs;
+          program_told = program_told;
+          graph_is = told_graph given.program given.root told before program mid scopes;
+          rows_told = both.0;
+          rows_keep = inputs_keep law given.inputs files expanded.program tables.rows both.0;
+          costs_told = both.1;
+          held = holds;
+        })

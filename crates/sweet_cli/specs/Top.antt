@@ -2,7 +2,7 @@
 --   IsRun words status shelf later out now   a run with these words ends so, leaves the shelf so, and wrote so
 --   words_of arguments                       the words: all arguments but the first, which is the program's name
 --   IsUnreadCode why code                    the exit code where the arguments could not be read: 7 where memory ran out, and else 8
-use Rattle.std.specs.Prelude.{◌≡◌, ◌≢◌, ◌⊎◌, ℕ, List, drop, map, string_bytes, IfSome, String}
+use Rattle.std.specs.Prelude.{◌≡◌, ◌≢◌, ◌⊎◌, ℕ, List, true, drop, map, string_bytes, IfSome, String}
 use Rattle.std.specs.declared.alloc.Global.{Global}
 use Rattle.std.specs.declared.io.Error.{Error}
 use Rattle.std.specs.declared.io.ErrorKind.TheVariants.{OutOfMemory}
@@ -12,8 +12,10 @@ use Rattle.flow_base.specs.Shelves.{ShelfState}
 use Rattle.flow_base.specs.Sinks.{SinkState}
 use Rattle.command_plans.specs.declared.status.Status.{Status}
 use Rattle.command_plans.specs.declared.status.Status.TheVariants as statuses
+use Rattle.command_plans.specs.Lines.{is_line}
 use Rattle.command_plans.specs.Outcome.{Ending, ending_status, ending_text}
 use Rattle.command_plans.specs.Run.{Answers, IsAnswered, Wrote, CutShort, WroteNothing, IsAnswerOf}
+use Rattle.command_plans.specs.Works.{OverRead}
 use Rattle.sweet_cli.specs.Task.{KeepsPromise, Promised}
 use Rattle.sweet_cli.specs.Table.{task_of}
 
@@ -23,6 +25,10 @@ pub record IsRun (words : List (List ℕ)) (status : Status) (shelf later : Shel
       × Answers (task_of words).work shelf ending later
       × IfSome shelf.files (λ files. KeepsPromise (task_of words) files ending) × Wrote (ending_text ending) out now
   pub promised : status ≡ statuses.Done → IfSome shelf.files (λ files. Promised (task_of words) files out now)
+  pub answer_read : IsAnswered status → (status ≡ statuses.ReadFailed → ⊥) → OverRead shelf later (λ files. (text : List ℕ)
+      × IsAnswerOf (task_of words).work files status text × Wrote text out now)
+  pub promised_read : status ≡ statuses.Done → OverRead shelf later (λ files. Promised (task_of words) files out now)
+  pub one_line : IsAnswered status → (status ≡ statuses.Done → ⊥) → (line : List ℕ) × (is_line line ≡ true) × Wrote line out now
   pub no_other_read : IsAnswered status → (status ≡ statuses.ReadFailed → ⊥) → later.failed ≡ shelf.failed
   pub same_files : later.files ≡ shelf.files
   pub write_failed : status ≡ statuses.WriteFailed → (ending : Ending) × Answers (task_of words).work shelf ending later

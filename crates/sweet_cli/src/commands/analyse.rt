@@ -1,6 +1,6 @@
 //! `analyse FILE`: what is told of all runs of the program.
 
-ghost use Rattle.std.specs.Prelude.{◌≡◌, ◌≤◌, IfOk, IfSome};
+ghost use Rattle.std.specs.Prelude.{◌≡◌, ◌≤◌, IfOk};
 ghost use Rattle.alf_check.specs.CheckedPrograms.{NumberedProgram, seen};
 ghost use Rattle.alf_check.specs.Inputs.{KeepInputs};
 ghost use Rattle.flow_graph.specs.Numbering.{IsGraph};
@@ -8,7 +8,7 @@ ghost use Rattle.flow_facts.specs.Reports.{certificate_of, reported};
 ghost use Rattle.flow_facts.specs.Writable.{IsWritable};
 ghost use Rattle.program_machines.specs.NodeCosts.{HasCosts};
 ghost use Rattle.report_soundness.specs.Certified.{printed_as};
-ghost use Rattle.command_plans.specs.Works.{Works, Judges};
+ghost use Rattle.command_plans.specs.Works.{Works, Judges, OverRead};
 ghost use Rattle.command_files.specs.Seen.{IsOutlined, scoped_of};
 ghost use Rattle.sweet_cli.specs.Words.{analyse_meant};
 ghost use Rattle.sweet_cli.specs.Analyse.{ReportMeans, IsSoundReport, analysing, policy_of};
@@ -38,7 +38,7 @@ pub fn analyse<F: Shelf>(
     ensures work { Works (analysing (analyse_meant given.entry)) (λ text. text.items) (F.state shelf.old) result
         (F.state shelf.new) }
     ensures promise { IfOk result
-        (λ text. IfSome (F.state shelf.old).files
+        (λ text. OverRead (F.state shelf.old) (F.state shelf.new)
         (λ files. IsSoundReport (analyse_meant given.entry) files text.items)) }
 {
     found_reports_are_right();

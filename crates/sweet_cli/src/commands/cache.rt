@@ -1,6 +1,6 @@
 //! `cache FILE`: what the runs of the program cost with the misses of an instruction cache.
 
-ghost use Rattle.std.specs.Prelude.{◌≡◌, ◌≤◌, IfOk, IfSome};
+ghost use Rattle.std.specs.Prelude.{◌≡◌, ◌≤◌, IfOk};
 ghost use Rattle.alf_check.specs.CheckedPrograms.{seen};
 ghost use Rattle.alf_check.specs.Inputs.{KeepInputs};
 ghost use Rattle.flow_graph.specs.Numbering.{IsGraph};
@@ -10,7 +10,7 @@ ghost use Rattle.code_layout.specs.Layouts.{all_statements, most_statements, par
 ghost use Rattle.cached_runs.specs.Answers.{lines_of};
 ghost use Rattle.cache_analysis.specs.CodeAccesses.{HasCodeNotes};
 ghost use Rattle.cache_analysis.specs.Sound.{IsSound};
-ghost use Rattle.command_plans.specs.Works.{Works, Judges};
+ghost use Rattle.command_plans.specs.Works.{Works, Judges, OverRead};
 ghost use Rattle.command_files.specs.Seen.{IsOutlined, scoped_of};
 ghost use Rattle.sweet_cli.specs.Words.{IsCacheWithin, cache_meant};
 ghost use Rattle.sweet_cli.specs.Analyse.{policy_of};
@@ -35,7 +35,7 @@ pub fn cache<F: Shelf>(alloc: Global, given: CacheWords<'_>, shelf: &mut F) -> R
     requires ranges { IsCacheWithin (cache_meant given) }
     ensures work { Works (caching (cache_meant given.entry)) (λ text. text.items)
         (F.state shelf.old) result (F.state shelf.new) }
-    ensures promise { IfOk result (λ text. IfSome (F.state shelf.old).files
+    ensures promise { IfOk result (λ text. OverRead (F.state shelf.old) (F.state shelf.new)
         (λ files. TellsCache (cache_meant given.entry) files text.items)) }
 {
     a_file_has_one_answer();

@@ -1,7 +1,7 @@
 //! `lower FILE`: the canonical text of the program of ALF that a file of C is lowered to.
 
-ghost use Rattle.std.specs.Prelude.{IfOk, IfSome};
-ghost use Rattle.command_plans.specs.Works.{Works};
+ghost use Rattle.std.specs.Prelude.{IfOk};
+ghost use Rattle.command_plans.specs.Works.{Works, OverRead};
 ghost use Rattle.sweet_cli.specs.Words.{lower_meant};
 ghost use Rattle.sweet_cli.specs.Lower.{lowering, IsLoweredText};
 
@@ -19,7 +19,7 @@ pub fn lower<F: Shelf>(alloc: Global, given: LowerWords<'_>, shelf: &mut F) -> R
     ensures work { Works (lowering (lower_meant given.entry)) (λ text. text.items) (F.state shelf.old) result
         (F.state shelf.new) }
     ensures promise { IfOk result
-        (λ text. IfSome (F.state shelf.old).files (λ files. IsLoweredText (lower_meant given.entry) files text.items)) }
+        (λ text. OverRead (F.state shelf.old) (F.state shelf.new) (λ files. IsLoweredText (lower_meant given.entry) files text.items)) }
 {
     // What canonical texts spell, as the promise needs it.
     writable_programs_are_spelled();

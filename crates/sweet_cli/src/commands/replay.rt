@@ -1,12 +1,12 @@
 //! `replay FILE REPORT`: the one run from given values is held against a report.
 
-ghost use Rattle.std.specs.Prelude.{◌≡◌, length, IfOk, IfSome};
+ghost use Rattle.std.specs.Prelude.{◌≡◌, length, IfOk};
 ghost use Rattle.alf_check.specs.CheckedPrograms.{NumberedProgram, seen};
 ghost use Rattle.alf_check.specs.Inputs.{KeepInputs};
 ghost use Rattle.flow_graph.specs.Numbering.{IsGraph};
 ghost use Rattle.flow_facts.specs.Reports.{reported};
 ghost use Rattle.program_machines.specs.NodeCosts.{HasCosts};
-ghost use Rattle.command_plans.specs.Works.{Works, Judges};
+ghost use Rattle.command_plans.specs.Works.{Works, Judges, OverRead};
 ghost use Rattle.command_files.specs.Seen.{IsOutlined, scoped_of, tables_of};
 ghost use Rattle.sweet_cli.specs.Words.{replay_meant};
 ghost use Rattle.run_replays.specs.Replays.{IsReplayed};
@@ -36,7 +36,7 @@ pub fn replay<F: Shelf>(
 ) -> Result<Vec<u8>, Stop>
     ensures work { Works (replaying (replay_meant given.entry)) (λ text. text.items)
         (F.state shelf.old) result (F.state shelf.new) }
-    ensures promise { IfOk result (λ text. IfSome (F.state shelf.old).files
+    ensures promise { IfOk result (λ text. OverRead (F.state shelf.old) (F.state shelf.new)
         (λ files. TellsReplay (replay_meant given.entry) files text.items)) }
 {
     a_file_has_one_answer();

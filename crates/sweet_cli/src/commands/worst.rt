@@ -1,6 +1,6 @@
 //! `worst FILE`: where the worst inputs of the program lie.
 
-ghost use Rattle.std.specs.Prelude.{◌≡◌, ◌≤◌, IfOk, IfSome};
+ghost use Rattle.std.specs.Prelude.{◌≡◌, ◌≤◌, IfOk};
 ghost use Rattle.alf_check.specs.CheckedPrograms.{seen};
 ghost use Rattle.alf_check.specs.Inputs.{KeepInputs};
 ghost use Rattle.flow_graph.specs.Numbering.{IsGraph};
@@ -9,7 +9,7 @@ ghost use Rattle.worst_inputs.specs.Searches.{found_of};
 ghost use Rattle.worst_inputs.specs.Promises.{Bounds};
 ghost use Rattle.program_bounder.specs.InputRows.{ranges_of};
 ghost use Rattle.program_bounder.specs.InputCosts.{RunsCost};
-ghost use Rattle.command_plans.specs.Works.{Works, Judges};
+ghost use Rattle.command_plans.specs.Works.{Works, Judges, OverRead};
 ghost use Rattle.command_files.specs.Seen.{IsOutlined, scoped_of};
 ghost use Rattle.sweet_cli.specs.Words.{worst_meant};
 ghost use Rattle.sweet_cli.specs.SeenBounders.{bounder_seen, BoxesMean};
@@ -35,7 +35,7 @@ pub fn worst<F: Shelf>(alloc: Global, given: WorstWords<'_>, shelf: &mut F) -> R
     requires turns { given.turns ≤ 1000000 }
     ensures work { Works (worsting (worst_meant given.entry)) (λ text. text.items)
         (F.state shelf.old) result (F.state shelf.new) }
-    ensures promise { IfOk result (λ text. IfSome (F.state shelf.old).files
+    ensures promise { IfOk result (λ text. OverRead (F.state shelf.old) (F.state shelf.new)
         (λ files. TellsWorst (worst_meant given.entry) files text.items)) }
 {
     a_file_has_one_answer();

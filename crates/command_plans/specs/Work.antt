@@ -12,7 +12,7 @@ use Rattle.command_plans.specs.Outcome.{Outcome, AreAlikeEndings, Ending, Finish
 use Rattle.command_plans.specs.Log.{Log, GrewAlike}
 pub use Rattle.command_plans.specs.Steps.{Steps, IsOnly, read_steps, judged_steps, done_steps, stop_steps, then_steps}
 pub use Rattle.command_plans.specs.OneAnswer.{IsOne, alike, read_one, judged_one, done_one, stop_one, then_one}
-pub use Rattle.command_plans.specs.Readings.{Reading, HoldRead, log_read, IsMadeOf, IsReadAlone, read_alone, judged_alone, done_alone, stop_alone, then_alone}
+pub use Rattle.command_plans.specs.Readings.{Reading, HoldRead, IsMadeOf, IsOfNames, IsReadAlone, read_alone, judged_alone, done_alone, stop_alone, then_alone}
 
 pub record Work (A : Type 0) : Type 1 where
   pub steps : Steps A
@@ -54,4 +54,4 @@ HasOneEnding w files = (p q : Log) (x y : Ending) (m n : Log) → ending_unread 
 -- each ending but a failed read is made of what was read
 abbrev pub EndsByReadings : Work (List ℕ) → Type 0
 EndsByReadings w = (told : Option Files) (before : Log) (ending : Ending) (after : Log) → ending_unread ending ≡ None
-    → EndsSo w told before ending after → IsMadeOf told before after (λ files. EndsSo w (Some files) before ending after)
+    → EndsSo w told before ending after → IsOfNames told before after (λ files log later. EndsSo w files log ending later)

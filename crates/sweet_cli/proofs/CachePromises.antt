@@ -49,16 +49,15 @@ cache_told given before mid end program tables lines text first same later secon
 -- and it keeps the promise
 pub tells_cache : RowsKeepTheRules → (given : CacheWords) (told : Option Files) (before mid later : Log) (program : ScopedProgram) (tables : Tables) (lines : CacheLines) (text : List ℕ)
     → (laid_out_in given.program given.root).steps.Gives told before program mid → (tables_in program.expanded.program given.inputs given.costs).steps.Gives told mid tables later
-    → IsMadeOf told before mid (λ files. IsToldProgram given.program given.root files program.expanded.program) → text ≡ cache_text lines
+    → IsMadeOf told before mid (file_name given.program ∷ []) (λ files. IsToldProgram given.program given.root files program.expanded.program) → text ≡ cache_text lines
     → IsAnalysis program.expanded.program program.expanded.graph tables.rows (cache_shape given) tables.costs (policy_of given.merging) given.turns (Told lines)
-    → IsSound program.expanded.program program.expanded.graph tables.rows (cache_shape given) tables.costs lines → IsMadeOf told before later (λ files. TellsCache given files text)
+    → IsSound program.expanded.program program.expanded.graph tables.rows (cache_shape given) tables.costs lines → IsMadeOf told before later (names_read given.program given.inputs given.costs) (λ files. TellsCache given files text)
 tells_cache law given told before mid later program tables lines text scopes read of shown found sound =
     let expanded = program.expanded in
-    both_made told before mid later (λ files. IsToldProgram given.program given.root files expanded.program)
-    (λ files. (tables_in expanded.program given.inputs given.costs).steps.Gives (Some files) mid tables later) (λ files. TellsCache given files text) of
-    ((tables_in expanded.program given.inputs given.costs).alone.gives told mid tables later read)
-    (λ files program_told told_so.
-        let both = told_tables expanded.program given.inputs given.costs files mid tables later told_so in
+    both_made told before mid later (file_name given.program ∷ []) (option_to_list given.inputs ++ option_to_list given.costs) (λ files. IsToldProgram given.program given.root files expanded.program)
+    (AreTabled given.inputs given.costs expanded.program tables) (λ files. TellsCache given files text) of
+    (tables_made expanded.program given.inputs given.costs told mid tables later read)
+    (λ files program_told both.
         record {
           program = expanded.program;
           graph = expanded.graph;

@@ -14,7 +14,7 @@ use Rattle.cost_table.specs.CostTables.{CostTable}
 use Rattle.flow_facts.specs.Reports.{Reported}
 use Rattle.cost_table.specs.Laws.{RowsKeepTheRules}
 use Rattle.command_plans.specs.Log.{Log, log_of}
-use Rattle.command_plans.specs.Readings.{IsMadeOf, both_made, widened}
+use Rattle.command_plans.specs.Readings.{IsMadeOf, both_made, one_made, widened}
 use Rattle.command_plans.specs.Works.{Works}
 use Rattle.program_files.specs.Told.{IsToldProgram}
 use Rattle.command_files.specs.Scopes.{ScopedProgram, scoped_in}
@@ -22,7 +22,7 @@ use Rattle.command_files.specs.Tables.{Tables, tables_in}
 use Rattle.command_files.specs.ReportFiles.{report_in, IsToldReport}
 use Rattle.sweet_cli.specs.Words.{CheckWords}
 use Rattle.sweet_cli.specs.Check.{report_judged, checking, IsSoundOf, IsSoundTold, IsAccepted, accepted}
-use Rattle.sweet_cli.proofs.Promises.{told_graph, told_tables, inputs_keep}
+use Rattle.sweet_cli.proofs.Promises.{AreTabled, tables_made, told_graph, inputs_keep}
 
 -- the told file spells the report that was read
 pub told_report : (file : List ℕ) (files : Files) (before : Log) (report : Reported) (after : Log)
@@ -30,12 +30,19 @@ pub told_report : (file : List ℕ) (files : Files) (before : Log) (report : Rep
 unfolding report_in
 told_report file files before report after (bytes, log, read, (spelled, same)) = (bytes, read.2, spelled.means)
 
+-- and so over all files that hold what was read
+pub report_made : (file : List ℕ) (told : Option Files) (before : Log) (report : Reported) (after : Log)
+    → (report_in file).steps.Gives told before report after → IsMadeOf told before after (file ∷ []) (λ files. IsToldReport file files report)
+unfolding report_in
+report_made file told before report after (bytes, log, read, (spelled, same)) =
+    one_made told before after file bytes (λ files. IsToldReport file files report) (same ∙ read.0) read.2 (λ files is. (bytes, is, spelled.means))
+
 -- a report that was read of told files, and is sound
 pub sound_told : (file : List ℕ) (told : Option Files) (before after : Log) (program : NumberedProgram) (graph : GraphParts) (rows : List InputRow) (costs : CostTable) (report : Reported)
-    → (report_in file).steps.Gives told before report after → IsSoundOf program graph rows costs report → IsMadeOf told before after (λ files. IsSoundTold file files program graph rows costs)
+    → (report_in file).steps.Gives told before report after → IsSoundOf program graph rows costs report → IsMadeOf told before after (file ∷ []) (λ files. IsSoundTold file files program graph rows costs)
 sound_told file told before after program graph rows costs report read sound =
-    widened told before after (λ files. (report_in file).steps.Gives (Some files) before report after) (λ files. IsSoundTold file files program graph rows costs)
-    (λ files again. record { report = report; told = told_report file files before report after again; sound = sound }) ((report_in file).alone.gives told before report after read)
+    widened told before after (file ∷ []) (λ files. IsToldReport file files report) (λ files. IsSoundTold file files program graph rows costs)
+    (λ files of. record { report = report; told = of; sound = sound }) (report_made file told before report after read)
 
 -- what is answered then is that it is accepted
 pub accepted_shown : (file : List ℕ) (program : ScopedProgram) (tables : Tables) (told : Option Files) (before : Log) (text : List ℕ) (after : Log)
@@ -60,25 +67,26 @@ checks_told given before mid late end program tables text first same later secon
     }
 
 -- the files give these tables, and spell a report that is sound with them
-abbrev IsTabledSound : CheckWords → ScopedProgram → Tables → Log → Log → Files → Type 0
-IsTabledSound given program tables mid late files =
-    (tables_in program.expanded.program given.inputs given.costs).steps.Gives (Some files) mid tables late
+abbrev IsTabledSound : CheckWords → ScopedProgram → Tables → Files → Type 0
+IsTabledSound given program tables files =
+    AreTabled given.inputs given.costs program.expanded.program tables files
     × IsSoundTold given.report files program.expanded.program program.expanded.graph tables.rows tables.costs
 
 -- and it keeps the promise
 pub tells_sound : RowsKeepTheRules → (given : CheckWords) (told : Option Files) (before mid late end : Log) (program : ScopedProgram) (tables : Tables) (text : List ℕ)
     → (scoped_in given.program given.root).steps.Gives told before program mid → (tables_in program.expanded.program given.inputs given.costs).steps.Gives told mid tables late
-    → IsMadeOf told before mid (λ files. IsToldProgram given.program given.root files program.expanded.program) → text ≡ accepted
-    → IsMadeOf told late end (λ files. IsSoundTold given.report files program.expanded.program program.expanded.graph tables.rows tables.costs) → IsMadeOf told before end (λ files. IsAccepted given files text)
+    → IsMadeOf told before mid (file_name given.program ∷ []) (λ files. IsToldProgram given.program given.root files program.expanded.program) → text ≡ accepted
+    → IsMadeOf told late end (given.report ∷ []) (λ files. IsSoundTold given.report files program.expanded.program program.expanded.graph tables.rows tables.costs)
+    → IsMadeOf told before end (names_read given.program given.inputs given.costs ++ (given.report ∷ [])) (λ files. IsAccepted given files text)
 tells_sound law given told before mid late end program tables text scopes read of shown sound =
     let expanded = program.expanded in
-    let again = both_made told mid late end (λ files. (tables_in expanded.program given.inputs given.costs).steps.Gives (Some files) mid tables late)
-    (λ files. IsSoundTold given.report files expanded.program expanded.graph tables.rows tables.costs) (λ files. IsTabledSound given program tables mid late files)
-    ((tables_in expanded.program given.inputs given.costs).alone.gives told mid tables late read) sound (λ files told_so held. (told_so, held)) in
-    both_made told before mid end (λ files. IsToldProgram given.program given.root files expanded.program) (λ files. IsTabledSound given program tables mid late files)
+    let tabled = option_to_list given.inputs ++ option_to_list given.costs in
+    let again = both_made told mid late end tabled (given.report ∷ []) (AreTabled given.inputs given.costs expanded.program tables)
+    (λ files. IsSoundTold given.report files expanded.program expanded.graph tables.rows tables.costs) (IsTabledSound given program tables)
+    (tables_made expanded.program given.inputs given.costs told mid tables late read) sound (λ files both held. (both, held)) in
+    both_made told before mid end (file_name given.program ∷ []) (tabled ++ (given.report ∷ [])) (λ files. IsToldProgram given.program given.root files expanded.program) (IsTabledSound given program tables)
     (λ files. IsAccepted given files text) of again
-    (λ files program_told (told_so, held).
-        let both = told_tables expanded.program given.inputs given.costs files mid tables late told_so in
+    (λ files program_told (both, held).
         record {
           program = expanded.program;
           graph = expanded.graph;

@@ -132,7 +132,7 @@ judged_works Means view shelf (Err stops.Memory) only = record { ends = tt; same
 
 -- and of which something holds whatever the files are
 pub kept_anyway : {X : Type 0} (shelf : ShelfState) (P : X → Type 0) (result : Result X Stop) → IfOk result P
-    → IfOk result (λ x. OverRead shelf shelf (λ files. P x))
+    → IfOk result (λ x. OverRead shelf shelf [] (λ files. P x))
 kept_anyway shelf P (Ok x) kept = still_made shelf.files (log_of shelf) (log_of shelf) (λ files. P x) refl (λ files. kept)
 kept_anyway shelf P (Err stop) kept = tt
 

@@ -11,7 +11,7 @@ use Rattle.response_time.specs.ScheduleLaws.{AllFinishInTime}
 use Rattle.command_plans.specs.Outcome.{Outcome, No, AreAlikeResults}
 use Rattle.command_plans.specs.Log.{Log}
 use Rattle.command_plans.specs.Work.{IsOnly, alike}
-use Rattle.command_plans.specs.Readings.{IsMadeOf, widened}
+use Rattle.command_plans.specs.Readings.{IsMadeOf, one_made}
 use Rattle.answer_texts.specs.ResponseText.{late_line}
 use Rattle.command_files.specs.TaskFiles.{tasks_told}
 use Rattle.sweet_cli.specs.Tasks.{ResponsesMean, answering, TellsResponses}
@@ -54,23 +54,19 @@ module _ (tasks : List TimedTask) (times_one : TimesAreOne) (late_one : LateIsOn
 -- a text that the work gives tells the response times of the told tasks, and each job finishes in them
 pub tells_responses : TasksAreTaskSets → AllFinishInTime
     → (file : List ℕ) (told : Option Files) (before : Log) (text : List ℕ) (after : Log)
-    → (answering file).steps.Gives told before text after → IsMadeOf told before after (λ files. TellsResponses file files text)
-tells_responses sets finish file told before text after gives =
-    widened told before after (λ files. (answering file).steps.Gives (Some files) before text after) (λ files. TellsResponses file files text)
-    (λ files again. responses_over files again) ((answering file).alone.gives told before text after gives)
-  where
-    responses_over : (files : Files) → (answering file).steps.Gives (Some files) before text after → TellsResponses file files text
-    unfolding answering tasks_told
-    responses_over files (tasks, mid, (bytes, log, read, (meant, same)), (times, end, (answered, still), (shown, over))) =
-        let are = sets bytes tasks meant.means in
-        record {
-          bytes = bytes;
-          tasks = tasks;
-          times = times;
-          told = read.2;
-          means = meant.means;
-          are = are;
-          shown = shown;
-          responses = answered.means;
-          finished = finish tasks times are answered.means;
-        }
+    → (answering file).steps.Gives told before text after → IsMadeOf told before after (file ∷ []) (λ files. TellsResponses file files text)
+unfolding answering tasks_told
+tells_responses sets finish file told before text after (tasks, mid, (bytes, log, read, (meant, same)), (times, end, (answered, still), (shown, over))) =
+    let are = sets bytes tasks meant.means in
+    one_made told before after file bytes (λ files. TellsResponses file files text) (over ∙ still ∙ same ∙ read.0) read.2
+    (λ files is. record {
+      bytes = bytes;
+      tasks = tasks;
+      times = times;
+      told = is;
+      means = meant.means;
+      are = are;
+      shown = shown;
+      responses = answered.means;
+      finished = finish tasks times are answered.means;
+    })

@@ -22,7 +22,7 @@ use Rattle.report_soundness.specs.ReportTold.{costs_of}
 use Rattle.report_objections.specs.declared.objection.Objection.{Objection}
 use Rattle.run_replays.specs.Replays.{Told, Asks, objects, passes, TellsRun, stops, ends, fault_of, TellEnd}
 use Rattle.command_plans.specs.Log.{Log, log_of}
-use Rattle.command_plans.specs.Readings.{IsMadeOf, both_made, widened}
+use Rattle.command_plans.specs.Readings.{IsMadeOf, both_made, one_made, still_made}
 use Rattle.command_plans.specs.Works.{Works}
 use Rattle.program_files.specs.Told.{IsToldProgram}
 use Rattle.command_files.specs.Values.{values_told, values_in, AreValues}
@@ -30,8 +30,8 @@ use Rattle.command_files.specs.Scopes.{ScopedProgram, scoped_in}
 use Rattle.command_files.specs.Tables.{Tables, tables_in}
 use Rattle.sweet_cli.specs.Words.{ReplayWords}
 use Rattle.sweet_cli.specs.Replay.{IsReplayOf, run_judged, replaying, HoldsOfRun, IsHeldTold, TellsReplay}
-use Rattle.sweet_cli.proofs.CheckPromises.{told_report}
-use Rattle.sweet_cli.proofs.Promises.{told_graph, told_tables, inputs_keep}
+use Rattle.sweet_cli.proofs.CheckPromises.{report_made}
+use Rattle.sweet_cli.proofs.Promises.{AreTabled, tables_made, told_graph, inputs_keep}
 
 -- ---- what a cost says
 
@@ -85,38 +85,34 @@ module _ (program : NumberedProgram) (graph : GraphParts) (rows : List InputRow)
 
 -- ---- what was read
 
--- the told file has the numbers that were read
-told_numbers : (n : ℕ) (file : Option (List ℕ)) (files : Files) (before : Log) (values : List ℤ) (after : Log)
-    → (values_in n file).steps.Gives (Some files) before values after → AreValues file files n values
+-- all files that hold what was read have the numbers
+numbers_made : (n : ℕ) (file : Option (List ℕ)) (told : Option Files) (before : Log) (values : List ℤ) (after : Log)
+    → (values_in n file).steps.Gives told before values after → IsMadeOf told before after (option_to_list file) (λ files. AreValues file files n values)
 unfolding values_told
-told_numbers n None files before values after (only, same) = only.means
-told_numbers n (Some file) files before values after (bytes, log, read, (only, same)) = (bytes, read.2, only.means)
+numbers_made n None told before values after (only, same) = still_made told before after (λ files. AreValues None files n values) same (λ files. only.means)
+numbers_made n (Some file) told before values after (bytes, log, read, (only, same)) =
+    one_made told before after file bytes (λ files. AreValues (Some file) files n values) (same ∙ read.0) read.2 (λ files is. (bytes, is, only.means))
 
--- so it is of the report and the values that were read of told files
-held_over : (given : ReplayWords) (program : ScopedProgram) (tables : Tables) (files : Files) (before : Log) (text : List ℕ) (after : Log)
-    → (run_judged given program tables).steps.Gives (Some files) before text after
-    → IsHeldTold given files program.expanded.program program.expanded.graph tables.rows tables.costs text
+-- so it is of the report and the values that were read
+pub held_told : (given : ReplayWords) (program : ScopedProgram) (tables : Tables) (told : Option Files) (before : Log) (text : List ℕ) (after : Log)
+    → (run_judged given program tables).steps.Gives told before text after
+    → IsMadeOf told before after (given.report ∷ option_to_list given.values) (λ files. IsHeldTold given files program.expanded.program program.expanded.graph tables.rows tables.costs text)
 unfolding run_judged
-held_over given program tables files before text after (report, log, read, (values, late, numbers, (only, same))) =
+held_told given program tables told before text after (report, log, read, (values, late, numbers, (only, same))) =
     let held = only.means in
-    record {
+    subst (λ (l : Log). IsMadeOf told before l (given.report ∷ option_to_list given.values) (λ files. IsHeldTold given files program.expanded.program program.expanded.graph tables.rows tables.costs text)) (sym same)
+    (both_made told before log late (given.report ∷ []) (option_to_list given.values) (λ files. IsToldReport given.report files report) (λ files. AreValues given.values files (length tables.rows) values)
+    (λ files. IsHeldTold given files program.expanded.program program.expanded.graph tables.rows tables.costs text)
+    (report_made given.report told before report log read) (numbers_made (length tables.rows) given.values told log values late numbers)
+    (λ files report_told values_told. record {
       report = report;
       values = values;
       cost = held.cost;
-      report_told = told_report given.report files before report log read;
-      values_told = told_numbers (length tables.rows) given.values files log values late numbers;
+      report_told = report_told;
+      values_told = values_told;
       holds = holds_of program.expanded.program program.expanded.graph tables.rows tables.costs report values held.cost held.holds;
       shown = held.line;
-    }
-
--- and over all files that hold what was read
-pub held_told : (given : ReplayWords) (program : ScopedProgram) (tables : Tables) (told : Option Files) (before : Log) (text : List ℕ) (after : Log)
-    → (run_judged given program tables).steps.Gives told before text after
-    → IsMadeOf told before after (λ files. IsHeldTold given files program.expanded.program program.expanded.graph tables.rows tables.costs text)
-held_told given program tables told before text after gives =
-    widened told before after (λ files. (run_judged given program tables).steps.Gives (Some files) before text after)
-    (λ files. IsHeldTold given files program.expanded.program program.expanded.graph tables.rows tables.costs text)
-    (λ files again. held_over given program tables files before text after again) ((run_judged given program tables).alone.gives told before text after gives)
+    }))
 
 -- ---- the promise
 
@@ -137,25 +133,27 @@ replay_told given before mid late end program tables text first same later secon
     }
 
 -- the files give these tables, and a report and values of which the text tells that they hold with them
-abbrev IsTabledHeld : ReplayWords → ScopedProgram → Tables → Log → Log → List ℕ → Files → Type 0
-IsTabledHeld given program tables mid late text files =
-    (tables_in program.expanded.program given.inputs given.costs).steps.Gives (Some files) mid tables late
+abbrev IsTabledHeld : ReplayWords → ScopedProgram → Tables → List ℕ → Files → Type 0
+IsTabledHeld given program tables text files =
+    AreTabled given.inputs given.costs program.expanded.program tables files
     × IsHeldTold given files program.expanded.program program.expanded.graph tables.rows tables.costs text
 
 -- and it keeps the promise
 pub tells_replay : RowsKeepTheRules → (given : ReplayWords) (told : Option Files) (before mid late end : Log) (program : ScopedProgram) (tables : Tables) (text : List ℕ)
     → (scoped_in given.program given.root).steps.Gives told before program mid → (tables_in program.expanded.program given.inputs given.costs).steps.Gives told mid tables late
-    → IsMadeOf told before mid (λ files. IsToldProgram given.program given.root files program.expanded.program)
-    → IsMadeOf told late end (λ files. IsHeldTold given files program.expanded.program program.expanded.graph tables.rows tables.costs text) → IsMadeOf told before end (λ files. TellsReplay given files text)
+    → IsMadeOf told before mid (file_name given.program ∷ []) (λ files. IsToldProgram given.program given.root files program.expanded.program)
+    → IsMadeOf told late end (given.report ∷ option_to_list given.values) (λ files. IsHeldTold given files program.expanded.program program.expanded.graph tables.rows tables.costs text)
+    → IsMadeOf told before end (names_read given.program given.inputs given.costs ++ (given.report ∷ option_to_list given.values)) (λ files. TellsReplay given files text)
 tells_replay law given told before mid late end program tables text scopes read of held =
     let expanded = program.expanded in
-    let again = both_made told mid late end (λ files. (tables_in expanded.program given.inputs given.costs).steps.Gives (Some files) mid tables late)
-    (λ files. IsHeldTold given files expanded.program expanded.graph tables.rows tables.costs text) (λ files. IsTabledHeld given program tables mid late text files)
-    ((tables_in expanded.program given.inputs given.costs).alone.gives told mid tables late read) held (λ files told_so holds. (told_so, holds)) in
-    both_made told before mid end (λ files. IsToldProgram given.program given.root files expanded.program) (λ files. IsTabledHeld given program tables mid late text files)
+    let tabled = option_to_list given.inputs ++ option_to_list given.costs in
+    let others = given.report ∷ option_to_list given.values in
+    let again = both_made told mid late end tabled others (AreTabled given.inputs given.costs expanded.program tables)
+    (λ files. IsHeldTold given files expanded.program expanded.graph tables.rows tables.costs text) (IsTabledHeld given program tables text)
+    (tables_made expanded.program given.inputs given.costs told mid tables late read) held (λ files both holds. (both, holds)) in
+    both_made told before mid end (file_name given.program ∷ []) (tabled ++ others) (λ files. IsToldProgram given.program given.root files expanded.program) (IsTabledHeld given program tables text)
     (λ files. TellsReplay given files text) of again
-    (λ files program_told (told_so, holds).
-        let both = told_tables expanded.program given.inputs given.costs files mid tables late told_so in
+    (λ files program_told (both, holds).
         record {
           program = expanded.program;
           graph = expanded.graph;

@@ -41,16 +41,15 @@ boxes_told given before mid end program tables found text first same later secon
 -- and it keeps the promise
 pub tells_worst : RowsKeepTheRules → (given : WorstWords) (told : Option Files) (before mid later : Log) (program : ScopedProgram) (tables : Tables) (found : Searched) (text : List ℕ)
     → (scoped_in given.program given.root).steps.Gives told before program mid → (tables_in program.expanded.program given.inputs given.costs).steps.Gives told mid tables later
-    → IsMadeOf told before mid (λ files. IsToldProgram given.program given.root files program.expanded.program) → text ≡ worst_text found
+    → IsMadeOf told before mid (file_name given.program ∷ []) (λ files. IsToldProgram given.program given.root files program.expanded.program) → text ≡ worst_text found
     → IsSearched (path_answers program.expanded.program program.expanded.graph tables.rows tables.costs (policy_of given.merging) given.turns given.pivots) (ranges_of tables.rows) given.splits found
-    → Bounds (RunsCost program.expanded.program program.expanded.graph tables.rows tables.costs) (ranges_of tables.rows) found → IsMadeOf told before later (λ files. TellsWorst given files text)
+    → Bounds (RunsCost program.expanded.program program.expanded.graph tables.rows tables.costs) (ranges_of tables.rows) found → IsMadeOf told before later (names_read given.program given.inputs given.costs) (λ files. TellsWorst given files text)
 tells_worst law given told before mid later program tables found text scopes read of shown searched bounds =
     let expanded = program.expanded in
-    both_made told before mid later (λ files. IsToldProgram given.program given.root files expanded.program)
-    (λ files. (tables_in expanded.program given.inputs given.costs).steps.Gives (Some files) mid tables later) (λ files. TellsWorst given files text) of
-    ((tables_in expanded.program given.inputs given.costs).alone.gives told mid tables later read)
-    (λ files program_told told_so.
-        let both = told_tables expanded.program given.inputs given.costs files mid tables later told_so in
+    both_made told before mid later (file_name given.program ∷ []) (option_to_list given.inputs ++ option_to_list given.costs) (λ files. IsToldProgram given.program given.root files expanded.program)
+    (AreTabled given.inputs given.costs expanded.program tables) (λ files. TellsWorst given files text) of
+    (tables_made expanded.program given.inputs given.costs told mid tables later read)
+    (λ files program_told both.
         record {
           program = expanded.program;
           graph = expanded.graph;

@@ -8,6 +8,7 @@ ghost use Rattle.command_plans.specs.Outcome.{Ending, ending_status, ending_text
 ghost use Rattle.command_plans.specs.Run.{Answers, IsAnswered, Wrote, CutShort, WroteNothing, IsAnswerOf};
 ghost use Rattle.command_plans.specs.Works.{OverRead};
 ghost use Rattle.sweet_cli.specs.Table.{task_of};
+ghost use Rattle.sweet_cli.specs.Top.{IsAnswerRead};
 ghost use Rattle.sweet_cli.specs.Task.{KeepsPromise, Promised};
 
 use crate::commands::words_answer;
@@ -37,13 +38,12 @@ pub fn run<F: Shelf, W: Sink>(alloc: Global, words: &[String], shelf: &mut F, ou
 
     // Also where nothing tells what files hold, what was written is the answer of files that hold what was read.
     ensures answer_read { IsAnswered result → (result ≡ Status.ReadFailed → ⊥)
-        → OverRead (F.state shelf.old) (F.state shelf.new) (λ files. (text : List ℕ)
-        × IsAnswerOf (task_of (map string_bytes words.now)).work files result text
-        × Wrote text (W.state out.old) (W.state out.new)) }
+        → IsAnswerRead (map string_bytes words.now) result (F.state shelf.old) (F.state shelf.new) (W.state out.old)
+        (W.state out.new) }
 
     // And after `Done` it keeps the promise of the command for files that hold what was read.
     ensures promised_read { result ≡ Status.Done → OverRead (F.state shelf.old) (F.state shelf.new)
-        (λ files. Promised (task_of (map string_bytes words.now)) files (W.state out.old) (W.state out.new)) }
+        (task_of (map string_bytes words.now)).names (λ files. Promised (task_of (map string_bytes words.now)) files (W.state out.old) (W.state out.new)) }
 
     // Each answer but that of `Done` is one line.
     ensures one_line { IsAnswered result → (result ≡ Status.Done → ⊥) → (line : List ℕ) × (is_line line ≡ true)

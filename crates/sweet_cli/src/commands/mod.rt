@@ -4,10 +4,10 @@ ghost use Rattle.std.specs.Prelude.{◌≡◌, map, string_bytes, IfOk, IfSome};
 ghost use Rattle.command_plans.specs.Run.{Answers, ending_of};
 ghost use Rattle.command_plans.specs.Lines.{TellsInALine};
 ghost use Rattle.command_plans.specs.Outcome.{IsStop};
-ghost use Rattle.command_plans.specs.Works.{Works, OverRead};
+ghost use Rattle.command_plans.specs.Works.{Works};
 ghost use Rattle.sweet_cli.specs.Words.{IsWithinRanges, command_meant, file_meant};
 ghost use Rattle.sweet_cli.specs.Table.{print_task, task_for, task_of};
-ghost use Rattle.sweet_cli.specs.Task.{KeepsOverRead, KeepsPromise, no_outcome};
+ghost use Rattle.sweet_cli.specs.Task.{IsPromised, KeepsOverRead, KeepsPromise, no_outcome};
 
 // A run that is counted.
 mod counting;
@@ -63,8 +63,7 @@ fn words_text<F: Shelf>(alloc: Global, words: &[String], shelf: &mut F) -> Resul
     ensures work { Works (task_of (map string_bytes words.now)).work (λ text. text.items) (F.state shelf.old) result
         (F.state shelf.new) }
     ensures promise { IfOk result
-        (λ text. OverRead (F.state shelf.old) (F.state shelf.new)
-        (λ files. (task_of (map string_bytes words.now)).Promise files text.items)) }
+        (λ text. IsPromised (task_of (map string_bytes words.now)) (F.state shelf.old) (F.state shelf.new) text.items) }
 {
     match read(alloc, words) {
         Ok(command) => command_text(alloc, command, shelf),
@@ -90,8 +89,8 @@ fn command_text<F: Shelf>(
     ensures work { Works (task_for (command_meant command.entry)).work (λ text. text.items) (F.state shelf.old) result
         (F.state shelf.new) }
     ensures promise { IfOk result
-        (λ text. OverRead (F.state shelf.old) (F.state shelf.new)
-        (λ files. (task_for (command_meant command.entry)).Promise files text.items)) }
+        (λ text. IsPromised (task_for (command_meant command.entry)) (F.state shelf.old) (F.state shelf.new)
+        text.items) }
 {
     match command {
         Command::Analyse(given) => analyse::analyse(alloc, given, shelf),
@@ -117,8 +116,8 @@ fn print_text<F: Shelf>(
     ensures work { Works (print_task (file_meant program.entry)).work (λ text. text.items) (F.state shelf.old) result
         (F.state shelf.new) }
     ensures promise { IfOk result
-        (λ text. OverRead (F.state shelf.old) (F.state shelf.new)
-        (λ files. (print_task (file_meant program.entry)).Promise files text.items)) }
+        (λ text. IsPromised (print_task (file_meant program.entry)) (F.state shelf.old) (F.state shelf.new)
+        text.items) }
 {
     match program {
         ProgramFile::Alf(file) => print::print(alloc, file, shelf),

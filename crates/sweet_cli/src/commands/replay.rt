@@ -6,11 +6,12 @@ ghost use Rattle.alf_check.specs.Inputs.{KeepInputs};
 ghost use Rattle.flow_graph.specs.Numbering.{IsGraph};
 ghost use Rattle.flow_facts.specs.Reports.{reported};
 ghost use Rattle.program_machines.specs.NodeCosts.{HasCosts};
-ghost use Rattle.command_plans.specs.Works.{Works, Judges, OverRead};
+ghost use Rattle.command_plans.specs.Works.{Works, Judges};
 ghost use Rattle.command_files.specs.Seen.{IsOutlined, scoped_of, tables_of};
 ghost use Rattle.sweet_cli.specs.Words.{replay_meant};
 ghost use Rattle.run_replays.specs.Replays.{IsReplayed};
-ghost use Rattle.sweet_cli.specs.Replay.{ReplayMeans, TellsReplay, replaying, run_judged};
+ghost use Rattle.sweet_cli.specs.Task.{IsPromised};
+ghost use Rattle.sweet_cli.specs.Replay.{replay, ReplayMeans, replaying, run_judged};
 
 use crate::commands::analyse::priced;
 use crate::words::ReplayWords;
@@ -36,8 +37,8 @@ pub fn replay<F: Shelf>(
 ) -> Result<Vec<u8>, Stop>
     ensures work { Works (replaying (replay_meant given.entry)) (λ text. text.items)
         (F.state shelf.old) result (F.state shelf.new) }
-    ensures promise { IfOk result (λ text. OverRead (F.state shelf.old) (F.state shelf.new)
-        (λ files. TellsReplay (replay_meant given.entry) files text.items)) }
+    ensures promise { IfOk result
+        (λ text. IsPromised (replay (replay_meant given.entry)) (F.state shelf.old) (F.state shelf.new) text.items) }
 {
     a_file_has_one_answer();
     let program = scoped_in(alloc, given.program, given.root, shelf)?;

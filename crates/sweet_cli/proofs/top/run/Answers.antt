@@ -26,7 +26,7 @@ pub returns-in-Ok-clause-answer_read : goal.returns-in-Ok-clause-answer_read
 returns-in-Ok-clause-answer_read g c =
     let wrote : Wrote (ending_text (ending_of c.in-Some.answer)) (g.W.Sink.state c.args.out.now) (g.W.Sink.state c.write_all.new.self) =
     rw (← c.text.ensures) (record { once = c.in-Ok.ensures.counted; all = c.in-Ok.ensures.answer }) in
-    λ whole other. answered_over (task_of (map string_bytes c.args.words.now)).work (g.F.Shelf.state c.args.shelf.now) (g.F.Shelf.state c.words_answer.new.shelf) (ending_of c.in-Some.answer)
+    λ whole other. answered_over (map string_bytes c.args.words.now) (g.F.Shelf.state c.args.shelf.now) (g.F.Shelf.state c.words_answer.new.shelf) (ending_of c.in-Some.answer)
     c.status.result (g.W.Sink.state c.args.out.now) (g.W.Sink.state c.write_all.new.self) c.in-Some.ensures.due.due c.status.ensures other wrote
 
 pub returns-in-Ok-clause-promised_read : goal.returns-in-Ok-clause-promised_read

@@ -25,7 +25,7 @@ returns-clause-promise g c =
     let third = c.in_ok-text.ensures in
     let read = subst (λ (told : Option Files). (tables_in program.expanded.program given.inputs given.costs).steps.Gives told (log_of mid) tables (log_of late)) first.same second.ends.0 in
     let held = held_told given program tables late.files (log_of late) text (log_of end) third.ends.0 in
-    let of_start = subst (λ (told : Option Files). IsMadeOf told (log_of late) (log_of end) (λ files. IsHeldTold given files program.expanded.program program.expanded.graph tables.rows tables.costs text)) (second.same ∙ first.same) held in
+    let of_start = subst (λ (told : Option Files). IsMadeOf told (log_of late) (log_of end) (given.report ∷ option_to_list given.values) (λ files. IsHeldTold given files program.expanded.program program.expanded.graph tables.rows tables.costs text)) (second.same ∙ first.same) held in
     tells_replay c.a_file_has_one_answer.ensures.keep given start.files (log_of start) (log_of mid) (log_of late) (log_of end) program tables text first.ends.0 read c.in_ok-program.ensures.told of_start
 
 pub returns-clause-work : goal.returns-clause-work

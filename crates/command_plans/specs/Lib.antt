@@ -9,6 +9,7 @@ pub mod OneAnswer
 pub mod Readings
 pub mod Work
 pub mod WorkLaws
+pub mod ReadingLaws
 pub mod Works
 pub mod Lines
 pub mod Run

@@ -4,6 +4,7 @@ ghost use Rattle.std.specs.Prelude.{◌≡◌, ◌≢◌, ℕ, List, [], true, f
 ghost use Rattle.command_plans.specs.Code.{code_of};
 ghost use Rattle.command_plans.specs.Lines.{is_line};
 ghost use Rattle.command_plans.specs.Outcome.{Cause, Outcome, Usage, Source, Example, Unbounded, No, Unread, Finished};
+ghost use Rattle.command_plans.specs.ReadingLaws.{ReadingsCanBeHeld};
 ghost use Rattle.command_plans.specs.Outcome.{status_of, ending_status, AreAlike};
 
 /// Each way in which work ends has its exit code; one example of several is told as any refusal is.
@@ -24,6 +25,11 @@ pub fn lines_end_in_their_one_feed()
     ensures two { is_line (codes "a\nb\n") ≡ false }
     ensures open { is_line (codes "a") ≡ false }
     ensures none { is_line [] ≡ false }
+{}
+
+/// Where no name was read with two contents there are files that hold what was read. Does nothing when it is called.
+pub fn what_was_read_can_be_held()
+    ensures { ReadingsCanBeHeld }
 {}
 
 /// Two outcomes that are alike have one text, unless it gives one example of several.

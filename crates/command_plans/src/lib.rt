@@ -26,6 +26,7 @@ mod laws;
 pub use answer::Answer;
 pub use laws::{
     each_ending_has_its_code, lines_end_in_their_one_feed, outcomes_that_are_alike_have_one_text,
+    what_was_read_can_be_held,
 };
 pub use reading::{Role, read_file};
 pub use status::Status;

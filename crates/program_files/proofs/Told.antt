@@ -1,5 +1,5 @@
 -- What told files say of the program that is read.
-use Rattle.std.proofs.Common.{◌≡◌, ℕ, List, [], ◌∷◌, Result, Ok, Err, Option, None, Some, IfOk, sym, ap, subst, ◌∙◌}
+use Rattle.std.proofs.Common.{◌≡◌, ℕ, List, [], ◌∷◌, Result, Ok, Err, Option, IfOk, sym, ap, subst, ◌∙◌}
 use Rattle.flow_base.specs.Outside.{Files}
 use Rattle.alf_program.specs.Tree.{WholeProgram}
 use Rattle.alf_check.specs.CheckedPrograms.{CheckedParts, NumberedProgram, seen}

@@ -2,7 +2,10 @@
 --   layout_graph   the graph that was drawn is that of the program
 --   cache_told     the text is that of the order of work
 --   tells_cache    and it keeps the promise
-use Rattle.std.proofs.Common.{◌≡◌, ◌≤◌, ℕ, List, Vec, Global, Ok, Option, Some, refl, sym, ◌∙◌, subst, arith}
+use Rattle.std.proofs.Common.{◌≡◌, ◌≤◌, ℕ, List, Vec, Global, Ok, Option, Some, refl, sym, ◌∙◌, subst, arith, [], ◌∷◌, ◌++◌}
+use Rattle.std.specs.Prelude.{option_to_list}
+use Rattle.sweet_cli.specs.Task.{names_read}
+use Rattle.sweet_words.specs.Files.{file_name}
 use Rattle.flow_base.specs.Outside.{Files}
 use Rattle.flow_base.specs.Shelves.{ShelfState}
 use Rattle.flow_graph.specs.Numbering.{IsGraph}
@@ -22,7 +25,7 @@ use Rattle.command_files.specs.Tables.{Tables, tables_in}
 use Rattle.sweet_cli.specs.Words.{ProgramFile, CacheWords}
 use Rattle.sweet_cli.specs.Analyse.{policy_of}
 use Rattle.sweet_cli.specs.Cache.{cache_shape, CacheMeans, caching, TellsCache}
-use Rattle.sweet_cli.proofs.Promises.{told_tables, inputs_keep}
+use Rattle.sweet_cli.proofs.Promises.{AreTabled, tables_made, inputs_keep}
 
 -- the graph that was drawn is that of the program
 pub layout_graph : (given : ProgramFile) (root : List ℕ) (told : Option Files) (before : Log) (program : ScopedProgram) (after : Log) → (laid_out_in given root).steps.Gives told before program after

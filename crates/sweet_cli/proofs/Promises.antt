@@ -1,6 +1,8 @@
 -- The promises of the commands, and of a run.
-use Rattle.std.proofs.Common.{◌≡◌, ◌≤◌, ℕ, true, List, Vec, Global, Ok, Option, None, Some, IfSome, refl, sym, ◌∙◌, subst, arith}
+use Rattle.std.proofs.Common.{◌≡◌, ◌≤◌, ℕ, true, List, Vec, Global, Ok, Option, None, Some, IfSome, refl, sym, ◌∙◌, subst, arith, [], ◌∷◌, ◌++◌}
 use Rattle.std.proofs.lemmas.List.Elements.{All-nil}
+use Rattle.std.specs.Prelude.{option_to_list}
+use Rattle.sweet_words.specs.Files.{file_name}
 use Rattle.flow_base.specs.Outside.{Files, Rose}
 use Rattle.flow_base.specs.Shelves.{ShelfState}
 use Rattle.flow_base.specs.Sinks.{SinkState}

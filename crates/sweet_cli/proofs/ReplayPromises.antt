@@ -3,7 +3,10 @@
 --   held_told    so it is of the report and the values that were read of told files
 --   replay_told  the text is that of the order of work
 --   tells_replay and it keeps the promise
-use Rattle.std.proofs.Common.{◌≡◌, ◌≤◌, ℕ, ℤ, List, Vec, Global, length, Ok, Err, Option, None, Some, IfSome, sym, ◌∙◌, subst, arith}
+use Rattle.std.proofs.Common.{◌≡◌, ◌≤◌, ℕ, ℤ, List, Vec, Global, length, Ok, Err, Option, None, Some, IfSome, sym, ◌∙◌, subst, arith, [], ◌∷◌, ◌++◌}
+use Rattle.std.specs.Prelude.{option_to_list}
+use Rattle.sweet_cli.specs.Task.{names_read}
+use Rattle.sweet_words.specs.Files.{file_name}
 use Rattle.flow_base.specs.Outside.{Files}
 use Rattle.flow_base.specs.Shelves.{ShelfState}
 use Rattle.alf_check.specs.CheckedPrograms.{NumberedProgram}

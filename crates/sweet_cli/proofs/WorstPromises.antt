@@ -1,7 +1,10 @@
 -- What is promised of a text that tells boxes of inputs.
 --   boxes_told     the text is that of the order of work
 --   tells_worst    and it keeps the promise
-use Rattle.std.proofs.Common.{◌≡◌, ◌≤◌, ℕ, List, Vec, Global, Ok, Option, Some, refl, ◌∙◌, subst, arith}
+use Rattle.std.proofs.Common.{◌≡◌, ◌≤◌, ℕ, List, Vec, Global, Ok, Option, Some, refl, ◌∙◌, subst, arith, [], ◌∷◌, ◌++◌}
+use Rattle.std.specs.Prelude.{option_to_list}
+use Rattle.sweet_cli.specs.Task.{names_read}
+use Rattle.sweet_words.specs.Files.{file_name}
 use Rattle.flow_base.specs.Outside.{Files}
 use Rattle.flow_base.specs.Shelves.{ShelfState}
 use Rattle.cost_table.specs.Laws.{RowsKeepTheRules}
@@ -21,7 +24,7 @@ use Rattle.command_files.specs.Tables.{Tables, tables_in}
 use Rattle.sweet_cli.specs.Words.{WorstWords}
 use Rattle.sweet_cli.specs.Analyse.{policy_of}
 use Rattle.sweet_cli.specs.Worst.{WorstMeans, worsting, TellsWorst}
-use Rattle.sweet_cli.proofs.Promises.{told_graph, told_tables, inputs_keep}
+use Rattle.sweet_cli.proofs.Promises.{AreTabled, told_graph, tables_made, inputs_keep}
 
 -- the text is that of the order of work
 pub boxes_told : (given : WorstWords) (before mid end : ShelfState) (program : ScopedProgram) (tables : Tables) (found : Searched) (text : Vec ℕ Global)

@@ -1,5 +1,5 @@
 -- The text is that of the order of work, and it keeps the promise.
-use Rattle.std.proofs.Common.{Option, ◌∙◌, subst}
+use Rattle.std.proofs.Common.{[], ◌∷◌, Option, ◌∙◌, subst}
 use Rattle.flow_base.specs.Outside.{Files}
 use Rattle.command_plans.specs.Log.{log_of}
 use Rattle.command_plans.specs.Readings.{IsMadeOf}

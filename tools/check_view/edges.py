@@ -224,6 +224,27 @@ class Edges:
         wanted = r"/* \x1b]0;t\x07 \x0d \x7f \x0c \u0085 \u202e \x9b */ int"
         self.hold(f"--text shows {out!r}", wanted in out and all(it == "\n" or it.isprintable() for it in out))
 
+    def fixed(self) -> None:
+        """What a report takes as the program begins with it: what no range names and the program may read."""
+        text = (
+            "int calls, unused, given; int limit[5] = {-1, 2, 3, 4, 5}; short set; const int one = 1;\n"
+            "int twice(int *x) { return *x + *x; }\n"
+            "int main(void) { set = 1; if (calls) return one; calls = twice(&given); return limit[given & 1]; }\n"
+        )
+        (self.room / "fixed.c").write_text(text, encoding="ascii")
+        row = '{ frame = "%s", offset = %d, size = 32, low = 0, high = 1, count = %d }'
+        rows = {"one": [("given", 0, 1)], "all": [("given", 0, 1), ("calls", 0, 1), ("limit", 0, 5), ("one", 0, 1)]}
+        rows["part"] = [*rows["all"][:2], ("limit", 4, 4), ("one", 0, 1)]
+        for name, cells in rows.items():
+            (self.room / f"{name}.toml").write_text(f"input = [{', '.join(row % it for it in cells)}]\n", encoding="ascii")
+        begins = "for one run, whose memory is fixed at the start: "
+        first = "calls = 0 (written), limit = {-1, 2, 3, 4, ..}, one = 1\n"
+        for inputs, wanted in (("one", begins + first), ("part", begins + "limit = {-1, 2, 3, 4, ..}\n"), ("all", "")):
+            ran = self.call("--text", "fixed.c", "--inputs", f"{inputs}.toml")
+            out = ran.out.decode("utf-8")
+            is_told = wanted in out if wanted else begins not in out
+            self.hold(f"fixed, {inputs}: status {ran.status}, {ran.told}{out}", ran.status == 0 and is_told)
+
     def ended(self) -> None:
         """Ended by a signal while the program is at work: one sentence, and nothing is left."""
         stub, begun = self.room / "slow", self.room / "begun"
@@ -246,6 +267,7 @@ class Edges:
 
     def all(self) -> None:
         self.ends()
+        self.fixed()
         for part in (self.pages, self.links, self.streams, self.files, self.named_files, self.refusals, self.controls):
             part()
         self.ended()

@@ -5,6 +5,7 @@ import dataclasses
 from view.alarms import Alarms
 from view.differs import Differs
 from view.exclusions import Exclusion, exclusions_of
+from view.fixed import Fixed, fixed_in
 from view.given_file import Unreadable, text_of
 from view.given_inputs import given_at_lines
 from view.lines import Lines
@@ -37,7 +38,8 @@ class View:
 
     `origin` is the file that it was written from, if its lines are shown: `text` is then of that file. `differs` says
     why no line is marked, `refusal` why there is no report, and `place` where; `unproved` says that the answers are not
-    of the proved program, and `notes` are further sentences.
+    of the proved program, and `notes` are further sentences. `fixed` has what the report takes as the program begins with
+    it, and is None where that is not known.
     """
 
     path: str
@@ -54,6 +56,7 @@ class View:
     unproved: str = ""
     place: tuple[int, int, str] | None = None
     given: dict[int, list[str]] = dataclasses.field(default_factory=dict)
+    fixed: list[Fixed] | None = None
     notes: list[str] = dataclasses.field(default_factory=list)
 
     @property
@@ -85,8 +88,10 @@ def look(words: list[str], is_own: bool = False, named: str | None = None) -> Vi
     root, is_c = options.get("--root", "main"), path.endswith(".c")
     text, answer = text_of(path), call("analyse", *words)
     view = View(path, words, text, answer.text, answer.status, unproved=unproved())
+    printed = None
     try:
-        view.source = source_of(view, root, is_c)
+        printed = printed_text(view, root, is_c)
+        view.source = source_of(view, printed, is_c)
         if view.source and is_c and not is_own:
             move(view, named)
         if answer.status == 0:
@@ -101,7 +106,17 @@ def look(words: list[str], is_own: bool = False, named: str | None = None) -> Vi
             view.place = waiting_place(answer.text, view.source, root)
     if view.source and "--inputs" in options:
         give(view, options["--inputs"])
+    if answer.status == 0 and printed is not None:
+        fix(view, printed, options.get("--inputs"))
     return view
+
+
+def fix(view: View, printed: str, inputs: str | None) -> None:
+    """Finds what the report takes as fixed."""
+    try:
+        view.fixed = fixed_in(printed, None if inputs is None else text_of(inputs))
+    except (Unreadable, *SURPRISES):
+        view.notes.append("What the report takes as fixed in memory could not be found out.")
 
 
 def move(view: View, named: str | None) -> None:
@@ -114,13 +129,18 @@ def move(view: View, named: str | None) -> None:
         view.source, view.text = moved(view.source, view.origin), view.origin.text
 
 
-def source_of(view: View, root: str, is_c: bool) -> Source | None:
-    """The source with its items; None where the program does not take the file."""
-    if is_c:
-        lowered = call("lower", f"--root={root}", "--", view.path)
-        return read_c(view.text, lowered.text) if lowered.status == 0 else None
-    printed = call("print", "--", view.path)
-    return read_alf(view.text, printed.text) if printed.status == 0 else None
+def printed_text(view: View, root: str, is_c: bool) -> str | None:
+    """The program as ALF; None where the program does not take the file."""
+    words = ["lower", f"--root={root}"] if is_c else ["print"]
+    printed = call(*words, "--", view.path)
+    return printed.text if printed.status == 0 else None
+
+
+def source_of(view: View, printed: str | None, is_c: bool) -> Source | None:
+    """The source with its items."""
+    if printed is None:
+        return None
+    return read_c(view.text, printed) if is_c else read_alf(view.text, printed)
 
 
 def report_of(text: str) -> Report:

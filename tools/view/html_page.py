@@ -14,6 +14,8 @@ from view.source_pane import SourcePane
 from view.visible import in_line
 
 HERE = pathlib.Path(__file__).resolve().parent
+FOR_ONE_RUN = "For one run, whose memory is fixed at the start:"
+FOR_EACH_START = "For one run; each global that it reads has a range."
 # Each page begins so: by that a file is known to be one.
 BEGIN = '<!doctype html><html lang="en"><head><meta charset="utf-8"><meta name="generator" content="sweet-view">'
 # Nothing is fetched, and of styles and scripts those alone count whose sums the page tells: no attribute is one.
@@ -93,6 +95,7 @@ class Page:
                 *self.warnings(),
                 self.bare_report() if self.view.status == 0 and not self.found else NOTHING,
                 element("div", *self.figures(), class_="stats") if self.found else NOTHING,
+                self.fixed() if self.view.report else NOTHING,
                 *(element("p", in_line(it), class_="note") for it in self.view.notes),
             ]
         )
@@ -164,6 +167,16 @@ class Page:
         if never:
             found.append(figure(str(never), f"line{'' if never == 1 else 's'} never reached"))
         return found
+
+    def fixed(self) -> Markup:
+        """What holds of one run alone: the memory that no range names."""
+        if self.view.fixed is None:
+            return NOTHING
+        told: list[Content] = [element("b", FOR_ONE_RUN if self.view.fixed else FOR_EACH_START)]
+        for number, it in enumerate(self.view.fixed):
+            words = element("code", f"{it.name} = {it.value}")
+            told += [", " if number else " ", element("span", words, " (written)", class_="amber") if it.is_written else words]
+        return element("p", *told, class_="fixed")
 
     def legend(self) -> Markup:
         """What heat and the margin mean."""

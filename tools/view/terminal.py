@@ -58,6 +58,9 @@ class Screen:
         told = f"no run costs more than {report.path_bound} (path bound, {report.path_word})"
         found = [f"{self.view.shown_path}: {told}"]
         found.append(f"count bound {report.count_bound}; shares are of the {bound}")
+        if self.view.fixed:
+            told = ", ".join(f"{it.name} = {it.value}{' (written)' if it.is_written else ''}" for it in self.view.fixed)
+            found.append(f"for one run, whose memory is fixed at the start: {told}")
         return [*found, "", f"{'in a run':>{self.count_width}} {'share':>5} {'line':>{self.number_width}}"]
 
     def row(self, line: int) -> list[str]:

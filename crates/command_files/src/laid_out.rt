@@ -1,11 +1,12 @@
 //! The program that a command lays out in memory, with the scopes of its graph.
 
-ghost use Rattle.std.specs.Prelude.{◌≡◌, ◌≤◌, IfOk, IfSome};
+ghost use Rattle.std.specs.Prelude.{◌≡◌, ◌≤◌, IfOk, [], ◌∷◌};
 ghost use Rattle.alf_check.specs.CheckedPrograms.{seen};
 ghost use Rattle.flow_graph.specs.Numbering.{IsGraph};
 ghost use Rattle.code_layout.specs.Layouts.{all_statements, most_statements};
-ghost use Rattle.command_plans.specs.Works.{Works, Judges};
+ghost use Rattle.command_plans.specs.Works.{Works, Judges, OverRead};
 ghost use Rattle.program_files.specs.Told.{IsToldProgram};
+ghost use Rattle.sweet_words.specs.Files.{file_name};
 ghost use Rattle.sweet_words.specs.Meant.{file_meant};
 ghost use Rattle.command_files.specs.Seen.{IsOutlined, scoped_of};
 ghost use Rattle.command_files.specs.LaidOut.{LaysOut, short_in, laid_out_in};
@@ -33,7 +34,8 @@ pub fn laid_out_in<F: Shelf>(
     ensures few { IfOk result (λ program. all_statements (seen program.expanded.checked) ≤ most_statements) }
     ensures graph { IfOk result (λ program. IsGraph (seen program.expanded.checked) program.expanded.graph) }
     ensures outline { IfOk result (λ program. IsOutlined program.expanded.graph program.outline) }
-    ensures told { IfOk result (λ scoped. IfSome (F.state shelf.old).files
+    ensures told { IfOk result (λ scoped. OverRead (F.state shelf.old) (F.state shelf.new)
+        (file_name (file_meant program.entry) ∷ [])
         (λ files. IsToldProgram (file_meant program.entry) root.now files (scoped_of scoped).expanded.program)) }
 {
     let checked = short_in(alloc, program, root, shelf)?;
@@ -54,7 +56,8 @@ fn short_in<F: Shelf>(
     ensures work { Works (short_in (file_meant program.entry) root.now) seen
         (F.state shelf.old) result (F.state shelf.new) }
     ensures few { IfOk result (λ checked. all_statements (seen checked) ≤ most_statements) }
-    ensures told { IfOk result (λ checked. IfSome (F.state shelf.old).files
+    ensures told { IfOk result (λ checked. OverRead (F.state shelf.old) (F.state shelf.new)
+        (file_name (file_meant program.entry) ∷ [])
         (λ files. IsToldProgram (file_meant program.entry) root.now files (seen checked))) }
 {
     let checked = checked_in(alloc, program, root, shelf)?;

@@ -1,10 +1,11 @@
 //! The program that a command reads, with the scopes of its graph.
 
-ghost use Rattle.std.specs.Prelude.{IfOk, IfSome};
+ghost use Rattle.std.specs.Prelude.{IfOk, [], ◌∷◌};
 ghost use Rattle.alf_check.specs.CheckedPrograms.{seen};
 ghost use Rattle.flow_graph.specs.Numbering.{IsGraph};
-ghost use Rattle.command_plans.specs.Works.{Works, Judges};
+ghost use Rattle.command_plans.specs.Works.{Works, Judges, OverRead};
 ghost use Rattle.program_files.specs.Told.{IsToldProgram};
+ghost use Rattle.sweet_words.specs.Files.{file_name};
 ghost use Rattle.sweet_words.specs.Meant.{file_meant};
 ghost use Rattle.command_files.specs.Scopes.{ScopesMean, scoped_in};
 ghost use Rattle.command_files.specs.Seen.{IsOutlined, scopes_seen, scoped_of};
@@ -39,7 +40,8 @@ pub fn scoped_in<F: Shelf>(
     ensures graph { IfOk result (λ program. IsGraph (seen program.expanded.checked) program.expanded.graph) }
     ensures outline { IfOk result (λ program. IsOutlined program.expanded.graph program.outline) }
     ensures told { IfOk result
-        (λ scoped. IfSome (F.state shelf.old).files
+        (λ scoped. OverRead (F.state shelf.old) (F.state shelf.new)
+        (file_name (file_meant program.entry) ∷ [])
         (λ files. IsToldProgram (file_meant program.entry) root.now files (scoped_of scoped).expanded.program)) }
 {
     let expanded = expanded_in(alloc, program, root, shelf)?;

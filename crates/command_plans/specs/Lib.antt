@@ -4,7 +4,12 @@ pub mod Code
 pub mod Outcome
 pub mod Log
 pub mod Roles
+pub mod Steps
+pub mod OneAnswer
+pub mod Readings
 pub mod Work
 pub mod WorkLaws
+pub mod ReadingLaws
 pub mod Works
+pub mod Lines
 pub mod Run

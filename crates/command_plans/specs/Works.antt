@@ -1,15 +1,16 @@
 -- What a function of the code does, beside the work that it stands for.
 --   Tells name before after            the failed read that is told is the shelf's last one; where none is told, none has failed
 --   Works w view before result after   the answer is one of the work, and the shelf is left as it says
+--   OverRead before after names Over   these names were read in between, and over all files that hold what was read this is true
 --   Judges Means view result           the answer is the one that is meant; no shelf is touched
 use Rattle.std.proofs.Common.{◌≡◌, ◌≤◌, ℕ, List, Result, Ok, Err, Option, None, Some}
-use Rattle.flow_base.specs.Outside.{Rose}
+use Rattle.flow_base.specs.Outside.{Files, Rose}
 use Rattle.flow_base.specs.Shelves.{ShelfState}
 use Rattle.command_plans.specs.declared.stop.Stop.{Stop}
 use Rattle.command_plans.specs.declared.stop.Stop.TheVariants as stops
 use Rattle.command_plans.specs.Outcome.{Outcome, cause_of, unread_of}
 use Rattle.command_plans.specs.Log.{log_of}
-use Rattle.command_plans.specs.Work.{Work, IsOnly}
+use Rattle.command_plans.specs.Work.{Work, IsOnly, IsMadeOf}
 
 -- the failed read that is told is the shelf's last one; where none is told, none has failed
 abbrev pub Tells : Option (List ℕ) → ShelfState → ShelfState → Type 0
@@ -28,6 +29,11 @@ pub record Works {A X : Type 0} (w : Work A) (view : X → A) (before : ShelfSta
   pub ends : Ends w view before result after
   pub same : after.files ≡ before.files
   pub later : before.faults ≤ after.faults
+
+-- what a function says of files is true over all files that hold what it read under these names, those that the shelf tells
+-- among them
+abbrev pub OverRead : ShelfState → ShelfState → List (List ℕ) → (Files → Type 0) → Type 0
+OverRead before after names Over = IsMadeOf before.files (log_of before) (log_of after) names Over
 
 -- a function that only judges answers what is meant, and tells no failed read
 abbrev pub Judges : {A X : Type 0} → (Result A Outcome → Type 0) → (X → A) → Result X Stop → Type 0

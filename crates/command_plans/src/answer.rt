@@ -1,10 +1,12 @@
 //! The answer of a tool, before it is written.
 
-ghost use Rattle.std.specs.Prelude.{◌≡◌};
+ghost use Rattle.std.specs.Prelude.{◌≡◌, ◌↔◌, IsTrue};
 ghost use Rattle.command_plans.specs.Outcome.{ending_status, ending_text};
+ghost use Rattle.command_plans.specs.Lines.{TellsInALine};
 ghost use Rattle.command_plans.specs.Run.{ending_of};
 
 use crate::Status;
+use crate::line::is_line;
 use crate::stop::Why;
 
 /// A text, or why there is none and the line that tells it.
@@ -24,6 +26,16 @@ impl Answer {
         match self {
             Answer::Finished(_) => Status::Done,
             Answer::Stopped(why, _) => why.status(),
+        }
+    }
+
+    /// Whether a stop is told in one line. Takes no memory.
+    pub fn is_told_in_a_line(&self) -> bool
+        ensures { IsTrue result ↔ TellsInALine (ending_of self.now) }
+    {
+        match self {
+            Answer::Finished(_) => true,
+            Answer::Stopped(_, text) => is_line(text),
         }
     }
 

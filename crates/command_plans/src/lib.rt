@@ -16,14 +16,18 @@ mod stop;
 // A file, read in its turn.
 mod reading;
 
-// The answer, before it is written.
+// The answer, before it is written, and the line of a stop.
 mod answer;
+mod line;
 
 // What the definitions promise.
 mod laws;
 
 pub use answer::Answer;
-pub use laws::{each_ending_has_its_code, outcomes_that_are_alike_have_one_text};
+pub use laws::{
+    each_ending_has_its_code, lines_end_in_their_one_feed, outcomes_that_are_alike_have_one_text,
+    what_was_read_can_be_held,
+};
 pub use reading::{Role, read_file};
 pub use status::Status;
 pub use stop::{Stop, Why, stopped};

@@ -1,5 +1,5 @@
 -- The graph of a program, or the limit that it passes, is its only meaning.
-use Rattle.std.proofs.Common.{◌≡◌, ℕ, List, [], Result, Ok, Err, Some, refl, ap, sym, ◌∙◌}
+use Rattle.std.proofs.Common.{◌≡◌, ℕ, List, Result, Ok, Err, Some, refl, ap, sym, ◌∙◌}
 use Rattle.flow_base.specs.declared.place.Which.{Which}
 use Rattle.flow_base.specs.declared.place.Which.TheVariants as which
 use Rattle.alf_check.specs.CheckedPrograms.{NumberedProgram}

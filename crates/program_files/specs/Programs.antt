@@ -4,7 +4,7 @@
 --   program_in file              a file is read, and its program
 --   CheckMeans whole root meaning   the program with numbers in place of names, where it passes the checks, or the line of its fault
 --   numbered_in file root        a file is read, and its program checked
-use Rattle.std.specs.Prelude.{◌≡◌, ℕ, List, [], Result, Ok, Err, Some, codes}
+use Rattle.std.specs.Prelude.{◌≡◌, ℕ, List, Result, Ok, Err, Some, codes}
 use Rattle.alf_program.specs.Tree.{WholeProgram}
 use Rattle.alf_text.specs.Language.{Departure, Means}
 use Rattle.alf_check.specs.CheckedPrograms.{NumberedProgram}

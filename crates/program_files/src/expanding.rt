@@ -1,10 +1,11 @@
 //! The program that a command reads, with its graph.
 
-ghost use Rattle.std.specs.Prelude.{IfOk, IfSome};
+ghost use Rattle.std.specs.Prelude.{[], ◌∷◌, IfOk};
 ghost use Rattle.alf_check.specs.CheckedPrograms.{seen};
 ghost use Rattle.flow_graph.specs.Numbering.{IsGraph};
+ghost use Rattle.sweet_words.specs.Files.{file_name};
 ghost use Rattle.sweet_words.specs.Meant.{file_meant};
-ghost use Rattle.command_plans.specs.Works.{Works, Judges};
+ghost use Rattle.command_plans.specs.Works.{Works, Judges, OverRead};
 ghost use Rattle.program_files.specs.Expanding.{lowered_in, checked_in, GraphMeans, expanded_in};
 ghost use Rattle.program_files.specs.Seen.{expanded_of};
 ghost use Rattle.program_files.specs.Told.{IsProgramOfUnit, IsToldProgram};
@@ -37,7 +38,7 @@ fn lowered_in<F: Shelf>(
 ) -> Result<Checked, Stop>
     ensures work { Works (lowered_in file.now root.now) seen (F.state shelf.old) result (F.state shelf.new) }
     ensures told { IfOk result
-        (λ checked. IfSome (F.state shelf.old).files
+        (λ checked. OverRead (F.state shelf.old) (F.state shelf.new) (file.now ∷ [])
         (λ files. IsProgramOfUnit file.now root.now files (seen checked))) }
 {
     let program = checked_unit_in(alloc, file, root, shelf)?;
@@ -55,7 +56,7 @@ pub fn checked_in<F: Shelf>(
     ensures work { Works (checked_in (file_meant program.entry) root.now) seen (F.state shelf.old) result
         (F.state shelf.new) }
     ensures told { IfOk result
-        (λ checked. IfSome (F.state shelf.old).files
+        (λ checked. OverRead (F.state shelf.old) (F.state shelf.new) (file_name (file_meant program.entry) ∷ [])
         (λ files. IsToldProgram (file_meant program.entry) root.now files (seen checked))) }
 {
     match program {
@@ -92,7 +93,7 @@ pub fn expanded_in<F: Shelf>(
         (F.state shelf.new) }
     ensures graph { IfOk result (λ expanded. IsGraph (seen expanded.checked) expanded.graph) }
     ensures told { IfOk result
-        (λ expanded. IfSome (F.state shelf.old).files
+        (λ expanded. OverRead (F.state shelf.old) (F.state shelf.new) (file_name (file_meant program.entry) ∷ [])
         (λ files. IsToldProgram (file_meant program.entry) root.now files (seen expanded.checked))) }
 {
     let checked = checked_in(alloc, program, root, shelf)?;

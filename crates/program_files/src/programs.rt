@@ -1,10 +1,10 @@
 //! Programs of ALF in files, checked.
 
-ghost use Rattle.std.specs.Prelude.{IfOk, IfSome};
+ghost use Rattle.std.specs.Prelude.{[], ◌∷◌, IfOk};
 ghost use Rattle.alf_program.specs.Tree.{program_of};
 ghost use Rattle.alf_program.specs.Writable.{IsWritable};
 ghost use Rattle.alf_check.specs.CheckedPrograms.{seen};
-ghost use Rattle.command_plans.specs.Works.{Works, Judges};
+ghost use Rattle.command_plans.specs.Works.{Works, Judges, OverRead};
 ghost use Rattle.program_files.specs.Programs.{ProgramMeans, program_in, CheckMeans, numbered_in};
 ghost use Rattle.program_files.specs.Told.{IsProgramOfText};
 
@@ -65,7 +65,7 @@ pub fn numbered_in<F: Shelf>(
 ) -> Result<Checked, Stop>
     ensures work { Works (numbered_in file.now root.now) seen (F.state shelf.old) result (F.state shelf.new) }
     ensures told { IfOk result
-        (λ checked. IfSome (F.state shelf.old).files
+        (λ checked. OverRead (F.state shelf.old) (F.state shelf.new) (file.now ∷ [])
         (λ files. IsProgramOfText file.now root.now files (seen checked))) }
 {
     let program = program_in(alloc, file, shelf)?;

@@ -1,9 +1,9 @@
 //! Units of C in files, checked.
 
-ghost use Rattle.std.specs.Prelude.{◌≡◌, IfOk, IfSome};
+ghost use Rattle.std.specs.Prelude.{◌≡◌, [], ◌∷◌, IfOk};
 ghost use Rattle.c_unit.specs.Units.{unit_of};
 ghost use Rattle.c_text.specs.Language.{IsSpelled};
-ghost use Rattle.command_plans.specs.Works.{Works, Judges};
+ghost use Rattle.command_plans.specs.Works.{Works, Judges, OverRead};
 ghost use Rattle.program_files.specs.Units.{UnitMeans, unit_in, UnitCheckMeans, checked_unit_in};
 ghost use Rattle.program_files.specs.Told.{IsToldUnit};
 
@@ -62,7 +62,7 @@ pub fn checked_unit_in<F: Shelf>(
     ensures work { Works (checked_unit_in file.now root.now) (λ program. unit_of program.unit) (F.state shelf.old)
         result (F.state shelf.new) }
     ensures told { IfOk result
-        (λ program. IfSome (F.state shelf.old).files
+        (λ program. OverRead (F.state shelf.old) (F.state shelf.new) (file.now ∷ [])
         (λ files. IsToldUnit file.now root.now files (unit_of program.unit))) }
     ensures root { IfOk result (λ program. program.root ≡ root.now) }
 {

@@ -2,7 +2,10 @@
 --   layout_graph   the graph that was drawn is that of the program
 --   cache_told     the text is that of the order of work
 --   tells_cache    and it keeps the promise
-use Rattle.std.proofs.Common.{◌≡◌, ◌≤◌, ℕ, List, Vec, Global, Ok, Option, None, Some, IfSome, refl, sym, ◌∙◌, subst, arith}
+use Rattle.std.proofs.Common.{◌≡◌, ◌≤◌, ℕ, List, Vec, Global, Ok, Option, Some, refl, sym, ◌∙◌, subst, arith, [], ◌∷◌, ◌++◌}
+use Rattle.std.specs.Prelude.{option_to_list}
+use Rattle.sweet_cli.specs.Task.{names_read}
+use Rattle.sweet_words.specs.Files.{file_name}
 use Rattle.flow_base.specs.Outside.{Files}
 use Rattle.flow_base.specs.Shelves.{ShelfState}
 use Rattle.flow_graph.specs.Numbering.{IsGraph}
@@ -12,6 +15,7 @@ use Rattle.cache_analysis.specs.Analyses.{IsAnalysis}
 use Rattle.cache_analysis.specs.Sound.{IsSound}
 use Rattle.command_plans.specs.Log.{Log, log_of}
 use Rattle.command_plans.specs.Work.{IsOnly}
+use Rattle.command_plans.specs.Readings.{IsMadeOf, both_made}
 use Rattle.command_plans.specs.Works.{Works}
 use Rattle.program_files.specs.Told.{IsToldProgram}
 use Rattle.answer_texts.specs.CacheText.{cache_text}
@@ -21,7 +25,7 @@ use Rattle.command_files.specs.Tables.{Tables, tables_in}
 use Rattle.sweet_cli.specs.Words.{ProgramFile, CacheWords}
 use Rattle.sweet_cli.specs.Analyse.{policy_of}
 use Rattle.sweet_cli.specs.Cache.{cache_shape, CacheMeans, caching, TellsCache}
-use Rattle.sweet_cli.proofs.Promises.{told_tables, inputs_keep}
+use Rattle.sweet_cli.proofs.Promises.{AreTabled, tables_made, inputs_keep}
 
 -- the graph that was drawn is that of the program
 pub layout_graph : (given : ProgramFile) (root : List ℕ) (told : Option Files) (before : Log) (program : ScopedProgram) (after : Log) → (laid_out_in given root).steps.Gives told before program after
@@ -48,25 +52,27 @@ cache_told given before mid end program tables lines text first same later secon
 -- and it keeps the promise
 pub tells_cache : RowsKeepTheRules → (given : CacheWords) (told : Option Files) (before mid later : Log) (program : ScopedProgram) (tables : Tables) (lines : CacheLines) (text : List ℕ)
     → (laid_out_in given.program given.root).steps.Gives told before program mid → (tables_in program.expanded.program given.inputs given.costs).steps.Gives told mid tables later
-    → IfSome told (λ files. IsToldProgram given.program given.root files program.expanded.program) → text ≡ cache_text lines
+    → IsMadeOf told before mid (file_name given.program ∷ []) (λ files. IsToldProgram given.program given.root files program.expanded.program) → text ≡ cache_text lines
     → IsAnalysis program.expanded.program program.expanded.graph tables.rows (cache_shape given) tables.costs (policy_of given.merging) given.turns (Told lines)
-    → IsSound program.expanded.program program.expanded.graph tables.rows (cache_shape given) tables.costs lines → IfSome told (λ files. TellsCache given files text)
-tells_cache law given None before mid later program tables lines text scopes read of shown found sound = tt
-tells_cache law given (Some files) before mid later program tables lines text scopes read of shown found sound =
+    → IsSound program.expanded.program program.expanded.graph tables.rows (cache_shape given) tables.costs lines → IsMadeOf told before later (names_read given.program given.inputs given.costs) (λ files. TellsCache given files text)
+tells_cache law given told before mid later program tables lines text scopes read of shown found sound =
     let expanded = program.expanded in
-    let both = told_tables expanded.program given.inputs given.costs files mid tables later read in
-    record {
-      program = expanded.program;
-      graph = expanded.graph;
-      rows = tables.rows;
-      costs = tables.costs;
-      lines = lines;
-      program_told = of;
-      graph_is = layout_graph given.program given.root (Some files) before program mid scopes;
-      rows_told = both.0;
-      rows_keep = inputs_keep law given.inputs files expanded.program tables.rows both.0;
-      costs_told = both.1;
-      shown = shown;
-      found = found;
-      sound = sound;
-    }
+    both_made told before mid later (file_name given.program ∷ []) (option_to_list given.inputs ++ option_to_list given.costs) (λ files. IsToldProgram given.program given.root files expanded.program)
+    (AreTabled given.inputs given.costs expanded.program tables) (λ files. TellsCache given files text) of
+    (tables_made expanded.program given.inputs given.costs told mid tables later read)
+    (λ files program_told both.
+        record {
+          program = expanded.program;
+          graph = expanded.graph;
+          rows = tables.rows;
+          costs = tables.costs;
+          lines = lines;
+          program_told = program_told;
+          graph_is = layout_graph given.program given.root told before program mid scopes;
+          rows_told = both.0;
+          rows_keep = inputs_keep law given.inputs files expanded.program tables.rows both.0;
+          costs_told = both.1;
+          shown = shown;
+          found = found;
+          sound = sound;
+        })

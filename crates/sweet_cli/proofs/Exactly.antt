@@ -1,5 +1,6 @@
 -- Where each range has one number, what is told is exactly the one run.
-use Rattle.std.proofs.Common.{◌≡◌, ℕ, Bool, true, false, List, map, slice_index, Option, Ok, Err, refl, sym, ap, subst, ◌∙◌}
+use Rattle.std.proofs.Common.{◌≡◌, ℕ, Bool, true, false, List, map, slice_index, Option, None, Some, Result, Ok, Err, inl, inr, refl, sym, ap, subst, ◌∙◌}
+use Rattle.flow_base.specs.Outside.{Files}
 use Rattle.alf_ops.specs.declared.history.RunFault.{RunFault}
 use Rattle.alf_check.specs.declared.rows.InputRow.{InputRow}
 use Rattle.alf_check.specs.CheckedPrograms.{CheckedParts, NumberedProgram, seen}
@@ -27,12 +28,17 @@ use Rattle.program_analysis.specs.LoneAnalyses.{LoneAnalysisIsExact}
 use Rattle.program_analysis.specs.BoundedAnalyses.{IsBoundedReport, IsPrintedReport}
 use Rattle.program_analysis.specs.AlikeBoundLaws.{bounded_of}
 use Rattle.program_analysis.specs.BoundedSound.{LoneBoundsAgree}
-use Rattle.command_plans.specs.Outcome.{Outcome, Unbounded}
+use Rattle.command_plans.specs.Log.{Log}
+use Rattle.command_plans.specs.Outcome.{Outcome, Unbounded, Ending, Finished, Stopped, ending_unread}
+use Rattle.command_plans.specs.Work.{EndsSo}
 use Rattle.answer_texts.specs.ScopeLines.{left_line}
-use Rattle.command_files.specs.Scopes.{ScopedProgram, IsScoped}
+use Rattle.command_files.specs.Scopes.{ScopedProgram, IsScoped, scoped_in}
+use Rattle.command_files.specs.Tables.{Tables, tables_in}
 use Rattle.sweet_cli.specs.Run.{IsLeft, low_start}
-use Rattle.sweet_cli.specs.Analyse.{IsLeftAt}
-use Rattle.sweet_cli.specs.Exact.{TellsOneRun, OneInputIsToldExactly}
+use Rattle.sweet_cli.specs.Words.{AnalyseWords, Command}
+use Rattle.sweet_cli.specs.Table.{task_for_some}
+use Rattle.sweet_cli.specs.Analyse.{analysing, policy_of, IsLeftAt, ReportMeans}
+use Rattle.sweet_cli.specs.Exact.{TellsOneRun, MeansOneRun, EndsAsOneRun, OneInputIsToldExactly, OneInputIsAnsweredExactly}
 use Rattle.sweet_cli.proofs.SoundReports.{costs_same}
 
 -- ---- in the words of the program
@@ -133,3 +139,53 @@ left_exactly one law program rows costs policy turns outcome lone scoped left =
 pub exactly : HasOneOutline → LoneAnalysisIsExact → LoneBoundsAgree → OneInputIsToldExactly
 exactly one law agree certify program rows costs policy turns pivots (Ok report) lone scoped means = printed_exactly law agree certify program rows costs policy turns pivots report lone means
 exactly one law agree certify program rows costs policy turns pivots (Err outcome) lone scoped means = left_exactly one law program rows costs policy turns outcome lone scoped means
+
+-- ---- over files
+
+-- the scopes that a file gives are those of its graph
+scopes_are : (given : AnalyseWords) (told : Option Files) (before : Log) (program : ScopedProgram) (after : Log) → (scoped_in given.program given.root).steps.Gives told before program after
+    → IsScoped program.expanded.graph program.scoped
+unfolding scoped_in
+scopes_are given told before program after (expanded, log, first, (scoped, mid, (means, still), (same, over))) =
+    subst (λ (p : ScopedProgram). IsScoped p.expanded.graph p.scoped) (sym same) means.means
+
+module _ (one : HasOneOutline) (law : LoneAnalysisIsExact) (agree : LoneBoundsAgree) (given : AnalyseWords) (files : Files) (before mid late : Log) (program : ScopedProgram) (tables : Tables)
+    (scopes : (scoped_in given.program given.root).steps.Gives (Some files) before program mid)
+    (rows : (tables_in program.expanded.program given.inputs given.costs).steps.Gives (Some files) mid tables late)
+    (lone : AreLone tables.rows) where
+  judged_exactly : (meaning : Result Reported Outcome) → ReportMeans given.certified program tables.rows tables.costs (policy_of given.merging) given.turns given.pivots meaning
+      → MeansOneRun program tables.rows tables.costs given.turns meaning
+  judged_exactly meaning means =
+      exactly one law agree given.certified program tables.rows tables.costs (policy_of given.merging) given.turns given.pivots meaning lone (scopes_are given (Some files) before program mid scopes) means
+
+  -- after the program and the tables that the files give, whatever the work was given of them
+  MeansJudged : ScopedProgram → Tables → Result Reported Outcome → Type 0
+  MeansJudged p t meaning = ReportMeans given.certified p t.rows t.costs (policy_of given.merging) given.turns given.pivots meaning
+
+  same_meaning : (p : ScopedProgram) (t : Tables) (l n : Log) (meaning : Result Reported Outcome)
+      → (scoped_in given.program given.root).steps.Gives (Some files) before p l
+      → (tables_in p.expanded.program given.inputs given.costs).steps.Gives (Some files) l t n
+      → MeansJudged p t meaning → MeansJudged program tables meaning
+  same_meaning p t l n meaning first second means =
+      let is : p ≡ program = ((scoped_in given.program given.root).one.gives files before before p program l mid first scopes).0 in
+      let second_is = subst (λ (q : ScopedProgram). (tables_in q.expanded.program given.inputs given.costs).steps.Gives (Some files) l t n) is second in
+      let tables_are : t ≡ tables = ((tables_in program.expanded.program given.inputs given.costs).one.gives files l mid t tables n late second_is rows).0 in
+      subst (λ (u : Tables). MeansJudged program u meaning) tables_are (subst (λ (q : ScopedProgram). MeansJudged q t meaning) is means)
+
+  pub ends_exactly : (ending : Ending) (after : Log) → EndsSo (analysing given) (Some files) before ending after → ending_unread ending ≡ None
+      → EndsAsOneRun program tables.rows tables.costs given.turns ending
+  unfolding analysing
+  ends_exactly (Finished text) after (p, l, first, (t, n, second, (report, m, (only, still), (is, over)))) of =
+      (report, is, judged_exactly (Ok report) (same_meaning p t l n (Ok report) first second only.means))
+  ends_exactly (Stopped outcome) after (inl first) of = absurd ((scoped_in given.program given.root).one.apart files before before program outcome mid after of scopes first)
+  ends_exactly (Stopped outcome) after (inr (p, l, first, inl second)) of =
+      let is : p ≡ program = ((scoped_in given.program given.root).one.gives files before before p program l mid first scopes).0 in
+      let stops = subst (λ (q : ScopedProgram). (tables_in q.expanded.program given.inputs given.costs).steps.Stops (Some files) l outcome after) is second in
+      absurd ((tables_in program.expanded.program given.inputs given.costs).one.apart files mid l tables outcome late after of rows stops)
+  ends_exactly (Stopped outcome) after (inr (p, l, first, inr (t, n, second, inl (only, still)))) of = judged_exactly (Err outcome) (same_meaning p t l n (Err outcome) first second only.means)
+  ends_exactly (Stopped outcome) after (inr (p, l, first, inr (t, n, second, inr (report, m, third, never)))) of = absurd never
+
+pub answered_exactly : HasOneOutline → LoneAnalysisIsExact → LoneBoundsAgree → OneInputIsAnsweredExactly
+answered_exactly one law agree words given files before mid late after program tables ending is scopes rows lone ends of =
+    let told = subst (λ (asked : Option Command). EndsSo (task_for_some asked).work (Some files) before ending after) is ends in
+    ends_exactly one law agree given files before mid late program tables scopes rows lone ending after told of

@@ -32,7 +32,8 @@ use Rattle.command_plans.specs.declared.stop.Stop.TheVariants as stops
 use Rattle.command_plans.specs.Outcome.{Outcome, AreAlikeResults, cause_of, unread_of}
 use Rattle.command_plans.specs.Log.{Log, log_of}
 use Rattle.command_plans.specs.Work.{Work, IsOnly, judged}
-use Rattle.command_plans.specs.Works.{Works, Judges, Tells}
+use Rattle.command_plans.specs.Readings.{still_made}
+use Rattle.command_plans.specs.Works.{Works, Judges, OverRead, Tells}
 use Rattle.program_files.specs.Told.{IsToldProgram}
 use Rattle.answer_texts.specs.SummaryText.{steps_among, summary_text, turns_of}
 use Rattle.command_files.specs.Scopes.{ScopedProgram, scoped_in}
@@ -130,11 +131,10 @@ judged_works Means view shelf (Err (stops.Told why text)) only = record {
 judged_works Means view shelf (Err stops.Memory) only = record { ends = tt; same = refl; later = omega arith }
 
 -- and of which something holds whatever the files are
-pub kept_anyway : {X : Type 0} (told : Option Files) (P : X → Type 0) (result : Result X Stop) → IfOk result P
-    → IfOk result (λ x. IfSome told (λ files. P x))
-kept_anyway None P (Ok x) kept = tt
-kept_anyway (Some files) P (Ok x) kept = kept
-kept_anyway told P (Err stop) kept = tt
+pub kept_anyway : {X : Type 0} (shelf : ShelfState) (P : X → Type 0) (result : Result X Stop) → IfOk result P
+    → IfOk result (λ x. OverRead shelf shelf [] (λ files. P x))
+kept_anyway shelf P (Ok x) kept = still_made shelf.files (log_of shelf) (log_of shelf) (λ files. P x) refl (λ files. kept)
+kept_anyway shelf P (Err stop) kept = tt
 
 -- ---- the promise
 

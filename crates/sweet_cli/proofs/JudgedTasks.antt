@@ -1,5 +1,5 @@
 -- What a task set is answered is the only answer; and the promise of response times.
-use Rattle.std.proofs.Common.{◌≡◌, ℕ, List, Result, Ok, Err, None, Some, Option, IfSome, slice_get, ap, sym, ◌∙◌}
+use Rattle.std.proofs.Common.{◌≡◌, ℕ, List, Result, Ok, Err, Some, Option, slice_get, ap, sym, ◌∙◌, [], ◌∷◌}
 use Rattle.std.proofs.lemmas.Option.{same_Some}
 use Rattle.flow_base.specs.Outside.{Files}
 use Rattle.cost_table.specs.declared.task_set.Task.{Task as TimedTask}
@@ -11,6 +11,7 @@ use Rattle.response_time.specs.ScheduleLaws.{AllFinishInTime}
 use Rattle.command_plans.specs.Outcome.{Outcome, No, AreAlikeResults}
 use Rattle.command_plans.specs.Log.{Log}
 use Rattle.command_plans.specs.Work.{IsOnly, alike}
+use Rattle.command_plans.specs.Readings.{IsMadeOf, one_made}
 use Rattle.answer_texts.specs.ResponseText.{late_line}
 use Rattle.command_files.specs.TaskFiles.{tasks_told}
 use Rattle.sweet_cli.specs.Tasks.{ResponsesMean, answering, TellsResponses}
@@ -53,19 +54,19 @@ module _ (tasks : List TimedTask) (times_one : TimesAreOne) (late_one : LateIsOn
 -- a text that the work gives tells the response times of the told tasks, and each job finishes in them
 pub tells_responses : TasksAreTaskSets → AllFinishInTime
     → (file : List ℕ) (told : Option Files) (before : Log) (text : List ℕ) (after : Log)
-    → (answering file).steps.Gives told before text after → IfSome told (λ files. TellsResponses file files text)
+    → (answering file).steps.Gives told before text after → IsMadeOf told before after (file ∷ []) (λ files. TellsResponses file files text)
 unfolding answering tasks_told
-tells_responses sets finish file None before text after g = tt
-tells_responses sets finish file (Some files) before text after (tasks, mid, (bytes, log, read, (meant, same)), (times, end, (answered, still), (shown, over))) =
+tells_responses sets finish file told before text after (tasks, mid, (bytes, log, read, (meant, same)), (times, end, (answered, still), (shown, over))) =
     let are = sets bytes tasks meant.means in
-    record {
+    one_made told before after file bytes (λ files. TellsResponses file files text) (over ∙ still ∙ same ∙ read.0) read.2
+    (λ files is. record {
       bytes = bytes;
       tasks = tasks;
       times = times;
-      told = read.2;
+      told = is;
       means = meant.means;
       are = are;
       shown = shown;
       responses = answered.means;
       finished = finish tasks times are answered.means;
-    }
+    })

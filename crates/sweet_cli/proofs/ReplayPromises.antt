@@ -3,7 +3,10 @@
 --   held_told    so it is of the report and the values that were read of told files
 --   replay_told  the text is that of the order of work
 --   tells_replay and it keeps the promise
-use Rattle.std.proofs.Common.{◌≡◌, ◌≤◌, ℕ, ℤ, List, Vec, Global, length, Ok, Err, Option, None, Some, IfSome, sym, ◌∙◌, subst, arith}
+use Rattle.std.proofs.Common.{◌≡◌, ◌≤◌, ℕ, ℤ, List, Vec, Global, length, Ok, Err, Option, None, Some, IfSome, sym, ◌∙◌, subst, arith, [], ◌∷◌, ◌++◌}
+use Rattle.std.specs.Prelude.{option_to_list}
+use Rattle.sweet_cli.specs.Task.{names_read}
+use Rattle.sweet_words.specs.Files.{file_name}
 use Rattle.flow_base.specs.Outside.{Files}
 use Rattle.flow_base.specs.Shelves.{ShelfState}
 use Rattle.alf_check.specs.CheckedPrograms.{NumberedProgram}
@@ -22,6 +25,7 @@ use Rattle.report_soundness.specs.ReportTold.{costs_of}
 use Rattle.report_objections.specs.declared.objection.Objection.{Objection}
 use Rattle.run_replays.specs.Replays.{Told, Asks, objects, passes, TellsRun, stops, ends, fault_of, TellEnd}
 use Rattle.command_plans.specs.Log.{Log, log_of}
+use Rattle.command_plans.specs.Readings.{IsMadeOf, both_made, one_made, still_made}
 use Rattle.command_plans.specs.Works.{Works}
 use Rattle.program_files.specs.Told.{IsToldProgram}
 use Rattle.command_files.specs.Values.{values_told, values_in, AreValues}
@@ -29,8 +33,8 @@ use Rattle.command_files.specs.Scopes.{ScopedProgram, scoped_in}
 use Rattle.command_files.specs.Tables.{Tables, tables_in}
 use Rattle.sweet_cli.specs.Words.{ReplayWords}
 use Rattle.sweet_cli.specs.Replay.{IsReplayOf, run_judged, replaying, HoldsOfRun, IsHeldTold, TellsReplay}
-use Rattle.sweet_cli.proofs.CheckPromises.{told_report}
-use Rattle.sweet_cli.proofs.Promises.{told_graph, told_tables, inputs_keep}
+use Rattle.sweet_cli.proofs.CheckPromises.{report_made}
+use Rattle.sweet_cli.proofs.Promises.{AreTabled, tables_made, told_graph, inputs_keep}
 
 -- ---- what a cost says
 
@@ -84,30 +88,34 @@ module _ (program : NumberedProgram) (graph : GraphParts) (rows : List InputRow)
 
 -- ---- what was read
 
--- the told file has the numbers that were read
-told_numbers : (n : ℕ) (file : Option (List ℕ)) (files : Files) (before : Log) (values : List ℤ) (after : Log)
-    → (values_in n file).steps.Gives (Some files) before values after → AreValues file files n values
+-- all files that hold what was read have the numbers
+numbers_made : (n : ℕ) (file : Option (List ℕ)) (told : Option Files) (before : Log) (values : List ℤ) (after : Log)
+    → (values_in n file).steps.Gives told before values after → IsMadeOf told before after (option_to_list file) (λ files. AreValues file files n values)
 unfolding values_told
-told_numbers n None files before values after (only, same) = only.means
-told_numbers n (Some file) files before values after (bytes, log, read, (only, same)) = (bytes, read.2, only.means)
+numbers_made n None told before values after (only, same) = still_made told before after (λ files. AreValues None files n values) same (λ files. only.means)
+numbers_made n (Some file) told before values after (bytes, log, read, (only, same)) =
+    one_made told before after file bytes (λ files. AreValues (Some file) files n values) (same ∙ read.0) read.2 (λ files is. (bytes, is, only.means))
 
--- so it is of the report and the values that were read of told files
+-- so it is of the report and the values that were read
 pub held_told : (given : ReplayWords) (program : ScopedProgram) (tables : Tables) (told : Option Files) (before : Log) (text : List ℕ) (after : Log)
     → (run_judged given program tables).steps.Gives told before text after
-    → IfSome told (λ files. IsHeldTold given files program.expanded.program program.expanded.graph tables.rows tables.costs text)
+    → IsMadeOf told before after (given.report ∷ option_to_list given.values) (λ files. IsHeldTold given files program.expanded.program program.expanded.graph tables.rows tables.costs text)
 unfolding run_judged
-held_told given program tables None before text after gives = tt
-held_told given program tables (Some files) before text after (report, log, read, (values, late, numbers, (only, same))) =
+held_told given program tables told before text after (report, log, read, (values, late, numbers, (only, same))) =
     let held = only.means in
-    record {
+    subst (λ (l : Log). IsMadeOf told before l (given.report ∷ option_to_list given.values) (λ files. IsHeldTold given files program.expanded.program program.expanded.graph tables.rows tables.costs text)) (sym same)
+    (both_made told before log late (given.report ∷ []) (option_to_list given.values) (λ files. IsToldReport given.report files report) (λ files. AreValues given.values files (length tables.rows) values)
+    (λ files. IsHeldTold given files program.expanded.program program.expanded.graph tables.rows tables.costs text)
+    (report_made given.report told before report log read) (numbers_made (length tables.rows) given.values told log values late numbers)
+    (λ files report_told values_told. record {
       report = report;
       values = values;
       cost = held.cost;
-      report_told = told_report given.report files before report log read;
-      values_told = told_numbers (length tables.rows) given.values files log values late numbers;
+      report_told = report_told;
+      values_told = values_told;
       holds = holds_of program.expanded.program program.expanded.graph tables.rows tables.costs report values held.cost held.holds;
       shown = held.line;
-    }
+    }))
 
 -- ---- the promise
 
@@ -127,24 +135,37 @@ replay_told given before mid late end program tables text first same later secon
       later = omega (arith, later, later_again, later_still);
     }
 
+-- the files give these tables, and a report and values of which the text tells that they hold with them
+abbrev IsTabledHeld : ReplayWords → ScopedProgram → Tables → List ℕ → Files → Type 0
+IsTabledHeld given program tables text files =
+    AreTabled given.inputs given.costs program.expanded.program tables files
+    × IsHeldTold given files program.expanded.program program.expanded.graph tables.rows tables.costs text
+
 -- and it keeps the promise
-pub tells_replay : RowsKeepTheRules → (given : ReplayWords) (told : Option Files) (before mid late : Log) (program : ScopedProgram) (tables : Tables) (text : List ℕ)
+pub tells_replay : RowsKeepTheRules → (given : ReplayWords) (told : Option Files) (before mid late end : Log) (program : ScopedProgram) (tables : Tables) (text : List ℕ)
     → (scoped_in given.program given.root).steps.Gives told before program mid → (tables_in program.expanded.program given.inputs given.costs).steps.Gives told mid tables late
-    → IfSome told (λ files. IsToldProgram given.program given.root files program.expanded.program)
-    → IfSome told (λ files. IsHeldTold given files program.expanded.program program.expanded.graph tables.rows tables.costs text) → IfSome told (λ files. TellsReplay given files text)
-tells_replay law given None before mid late program tables text scopes read of held = tt
-tells_replay law given (Some files) before mid late program tables text scopes read of held =
+    → IsMadeOf told before mid (file_name given.program ∷ []) (λ files. IsToldProgram given.program given.root files program.expanded.program)
+    → IsMadeOf told late end (given.report ∷ option_to_list given.values) (λ files. IsHeldTold given files program.expanded.program program.expanded.graph tables.rows tables.costs text)
+    → IsMadeOf told before end (names_read given.program given.inputs given.costs ++ (given.report ∷ option_to_list given.values)) (λ files. TellsReplay given files text)
+tells_replay law given told before mid late end program tables text scopes read of held =
     let expanded = program.expanded in
-    let both = told_tables expanded.program given.inputs given.costs files mid tables late read in
-    record {
-      program = expanded.program;
-      graph = expanded.graph;
-      rows = tables.rows;
-      costs = tables.costs;
-      program_told = of;
-      graph_is = told_graph given.program given.root (Some files) before program mid scopes;
-      rows_told = both.0;
-      rows_keep = inputs_keep law given.inputs files expanded.program tables.rows both.0;
-      costs_told = both.1;
-      held = held;
-    }
+    let tabled = option_to_list given.inputs ++ option_to_list given.costs in
+    let others = given.report ∷ option_to_list given.values in
+    let again = both_made told mid late end tabled others (AreTabled given.inputs given.costs expanded.program tables)
+    (λ files. IsHeldTold given files expanded.program expanded.graph tables.rows tables.costs text) (IsTabledHeld given program tables text)
+    (tables_made expanded.program given.inputs given.costs told mid tables late read) held (λ files both holds. (both, holds)) in
+    both_made told before mid end (file_name given.program ∷ []) (tabled ++ others) (λ files. IsToldProgram given.program given.root files expanded.program) (IsTabledHeld given program tables text)
+    (λ files. TellsReplay given files text) of again
+    (λ files program_told (both, holds).
+        record {
+          program = expanded.program;
+          graph = expanded.graph;
+          rows = tables.rows;
+          costs = tables.costs;
+          program_told = program_told;
+          graph_is = told_graph given.program given.root told before program mid scopes;
+          rows_told = both.0;
+          rows_keep = inputs_keep law given.inputs files expanded.program tables.rows both.0;
+          costs_told = both.1;
+          held = holds;
+        })

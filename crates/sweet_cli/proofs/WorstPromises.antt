@@ -1,7 +1,10 @@
 -- What is promised of a text that tells boxes of inputs.
 --   boxes_told     the text is that of the order of work
 --   tells_worst    and it keeps the promise
-use Rattle.std.proofs.Common.{◌≡◌, ◌≤◌, ℕ, List, Vec, Global, Ok, Option, None, Some, IfSome, refl, ◌∙◌, subst, arith}
+use Rattle.std.proofs.Common.{◌≡◌, ◌≤◌, ℕ, List, Vec, Global, Ok, Option, Some, refl, ◌∙◌, subst, arith, [], ◌∷◌, ◌++◌}
+use Rattle.std.specs.Prelude.{option_to_list}
+use Rattle.sweet_cli.specs.Task.{names_read}
+use Rattle.sweet_words.specs.Files.{file_name}
 use Rattle.flow_base.specs.Outside.{Files}
 use Rattle.flow_base.specs.Shelves.{ShelfState}
 use Rattle.cost_table.specs.Laws.{RowsKeepTheRules}
@@ -12,6 +15,7 @@ use Rattle.program_bounder.specs.InputCosts.{RunsCost}
 use Rattle.program_bounder.specs.PathBounds.{path_answers}
 use Rattle.command_plans.specs.Log.{Log, log_of}
 use Rattle.command_plans.specs.Work.{IsOnly}
+use Rattle.command_plans.specs.Readings.{IsMadeOf, both_made}
 use Rattle.command_plans.specs.Works.{Works}
 use Rattle.program_files.specs.Told.{IsToldProgram}
 use Rattle.answer_texts.specs.WorstText.{worst_text}
@@ -20,7 +24,7 @@ use Rattle.command_files.specs.Tables.{Tables, tables_in}
 use Rattle.sweet_cli.specs.Words.{WorstWords}
 use Rattle.sweet_cli.specs.Analyse.{policy_of}
 use Rattle.sweet_cli.specs.Worst.{WorstMeans, worsting, TellsWorst}
-use Rattle.sweet_cli.proofs.Promises.{told_graph, told_tables, inputs_keep}
+use Rattle.sweet_cli.proofs.Promises.{AreTabled, told_graph, tables_made, inputs_keep}
 
 -- the text is that of the order of work
 pub boxes_told : (given : WorstWords) (before mid end : ShelfState) (program : ScopedProgram) (tables : Tables) (found : Searched) (text : Vec ℕ Global)
@@ -40,25 +44,27 @@ boxes_told given before mid end program tables found text first same later secon
 -- and it keeps the promise
 pub tells_worst : RowsKeepTheRules → (given : WorstWords) (told : Option Files) (before mid later : Log) (program : ScopedProgram) (tables : Tables) (found : Searched) (text : List ℕ)
     → (scoped_in given.program given.root).steps.Gives told before program mid → (tables_in program.expanded.program given.inputs given.costs).steps.Gives told mid tables later
-    → IfSome told (λ files. IsToldProgram given.program given.root files program.expanded.program) → text ≡ worst_text found
+    → IsMadeOf told before mid (file_name given.program ∷ []) (λ files. IsToldProgram given.program given.root files program.expanded.program) → text ≡ worst_text found
     → IsSearched (path_answers program.expanded.program program.expanded.graph tables.rows tables.costs (policy_of given.merging) given.turns given.pivots) (ranges_of tables.rows) given.splits found
-    → Bounds (RunsCost program.expanded.program program.expanded.graph tables.rows tables.costs) (ranges_of tables.rows) found → IfSome told (λ files. TellsWorst given files text)
-tells_worst law given None before mid later program tables found text scopes read of shown searched bounds = tt
-tells_worst law given (Some files) before mid later program tables found text scopes read of shown searched bounds =
+    → Bounds (RunsCost program.expanded.program program.expanded.graph tables.rows tables.costs) (ranges_of tables.rows) found → IsMadeOf told before later (names_read given.program given.inputs given.costs) (λ files. TellsWorst given files text)
+tells_worst law given told before mid later program tables found text scopes read of shown searched bounds =
     let expanded = program.expanded in
-    let both = told_tables expanded.program given.inputs given.costs files mid tables later read in
-    record {
-      program = expanded.program;
-      graph = expanded.graph;
-      rows = tables.rows;
-      costs = tables.costs;
-      found = found;
-      program_told = of;
-      graph_is = told_graph given.program given.root (Some files) before program mid scopes;
-      rows_told = both.0;
-      rows_keep = inputs_keep law given.inputs files expanded.program tables.rows both.0;
-      costs_told = both.1;
-      shown = shown;
-      searched = searched;
-      bounds = bounds;
-    }
+    both_made told before mid later (file_name given.program ∷ []) (option_to_list given.inputs ++ option_to_list given.costs) (λ files. IsToldProgram given.program given.root files expanded.program)
+    (AreTabled given.inputs given.costs expanded.program tables) (λ files. TellsWorst given files text) of
+    (tables_made expanded.program given.inputs given.costs told mid tables later read)
+    (λ files program_told both.
+        record {
+          program = expanded.program;
+          graph = expanded.graph;
+          rows = tables.rows;
+          costs = tables.costs;
+          found = found;
+          program_told = program_told;
+          graph_is = told_graph given.program given.root told before program mid scopes;
+          rows_told = both.0;
+          rows_keep = inputs_keep law given.inputs files expanded.program tables.rows both.0;
+          costs_told = both.1;
+          shown = shown;
+          searched = searched;
+          bounds = bounds;
+        })

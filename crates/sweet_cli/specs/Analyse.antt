@@ -39,7 +39,7 @@ use Rattle.command_files.specs.Scopes.{ScopedProgram, scoped_in}
 use Rattle.command_files.specs.Tables.{tables_in, AreInputs, AreCosts}
 use Rattle.sweet_cli.specs.Words.{AnalyseWords, Merging, Never, Exits, Joins}
 use Rattle.sweet_cli.specs.Legends.{HasLegend}
-use Rattle.sweet_cli.specs.Task.{Task}
+use Rattle.sweet_cli.specs.Task.{Task, names_read}
 
 -- the policy that merges there
 abbrev pub policy_of : Merging → Policy
@@ -112,4 +112,4 @@ pub record IsSoundReport (given : AnalyseWords) (files : Files) (text : List ℕ
   pub certificate : HasCertificate given.certified sound.outline report
 
 abbrev pub analyse : AnalyseWords → Task
-analyse given = record { work = analysing given; Promise = IsSoundReport given }
+analyse given = record { work = analysing given; names = names_read given.program given.inputs given.costs; Promise = IsSoundReport given }

@@ -29,7 +29,7 @@ use Rattle.command_files.specs.LaidOut.{laid_out_in}
 use Rattle.command_files.specs.Tables.{tables_in, AreInputs, AreCosts}
 use Rattle.sweet_cli.specs.Words.{CacheWords}
 use Rattle.sweet_cli.specs.Analyse.{policy_of}
-use Rattle.sweet_cli.specs.Task.{Task}
+use Rattle.sweet_cli.specs.Task.{Task, names_read}
 
 -- the cache
 abbrev pub cache_shape : CacheWords → Shape
@@ -77,4 +77,4 @@ pub record TellsCache (given : CacheWords) (files : Files) (text : List ℕ) : T
   pub sound : IsSound program graph rows (cache_shape given) costs lines
 
 abbrev pub cache : CacheWords → Task
-cache given = record { work = caching given; Promise = TellsCache given }
+cache given = record { work = caching given; names = names_read given.program given.inputs given.costs; Promise = TellsCache given }

@@ -7,7 +7,7 @@
 --   IsSoundTold file files program graph rows costs   the told file spells a report that is so
 --   IsAccepted given files text   the promise: the report of the file is sound for the program that the file gives
 --   check given                   the task
-use Rattle.std.specs.Prelude.{◌≡◌, List, Result, Ok, Err, None, Some, ℕ, codes}
+use Rattle.std.specs.Prelude.{◌≡◌, List, Result, Ok, Err, None, Some, ℕ, codes, ◌++◌, ◌∷◌, []}
 use Rattle.flow_base.specs.Outside.{Files}
 use Rattle.alf_check.specs.declared.rows.InputRow.{InputRow}
 use Rattle.alf_check.specs.CheckedPrograms.{NumberedProgram}
@@ -31,7 +31,7 @@ use Rattle.command_files.specs.Tables.{Tables, tables_in, AreInputs, AreCosts}
 use Rattle.command_files.specs.ReportFiles.{report_in, IsToldReport}
 use Rattle.sweet_cli.specs.Words.{CheckWords}
 use Rattle.sweet_cli.specs.Legends.{HasLegend}
-use Rattle.sweet_cli.specs.Task.{Task}
+use Rattle.sweet_cli.specs.Task.{Task, names_read}
 
 -- the text of a report that is accepted
 abbrev pub accepted : List ℕ
@@ -96,4 +96,4 @@ pub record IsAccepted (given : CheckWords) (files : Files) (text : List ℕ) : T
   pub sound : IsSoundTold given.report files program graph rows costs
 
 abbrev pub check : CheckWords → Task
-check given = record { work = checking given; Promise = IsAccepted given }
+check given = record { work = checking given; names = names_read given.program given.inputs given.costs ++ (given.report ∷ []); Promise = IsAccepted given }

@@ -55,5 +55,6 @@ pub record TellsSummary (files : Files) (text : List ℕ) : Type 0 where
 abbrev pub generate : ℕ → Task
 generate n = record {
   work = judged (EndsOver summing (made_files n));
+  names = [];
   Promise = λ files text. TellsSummary (made_files n) text;
 }

@@ -2,7 +2,7 @@
 --   lowering given                  the order of work
 --   IsLoweredText given files text  the promise: the text spells what the unit that the file spells is lowered to, which does what the unit does
 --   lower given                     the task
-use Rattle.std.specs.Prelude.{ℕ, List}
+use Rattle.std.specs.Prelude.{ℕ, List, ◌∷◌, []}
 use Rattle.flow_base.specs.Outside.{Files}
 use Rattle.alf_text.specs.Language.{SpellsProgram}
 use Rattle.alf_text.specs.Canonical.{canonical_text}
@@ -32,4 +32,4 @@ pub record IsLoweredText (given : LowerWords) (files : Files) (text : List ℕ) 
   pub outcomes : HaveUnitsOutcomes unit given.root
 
 abbrev pub lower : LowerWords → Task
-lower given = record { work = lowering given; Promise = IsLoweredText given }
+lower given = record { work = lowering given; names = given.file ∷ []; Promise = IsLoweredText given }

@@ -2,7 +2,7 @@
 --   migrating file               the order of work
 --   IsMigratedReport file files text   the promise: the text spells the report of the told file in the second form
 --   migrate file                 the task
-use Rattle.std.specs.Prelude.{◌≡◌, ℕ, List}
+use Rattle.std.specs.Prelude.{◌≡◌, ℕ, List, ◌∷◌, []}
 use Rattle.flow_base.specs.Outside.{Files}
 use Rattle.flow_facts.specs.Reports.{Reported}
 use Rattle.fact_words.specs.Canonical.{report_text}
@@ -26,4 +26,4 @@ pub record IsMigratedReport (file : List ℕ) (files : Files) (text : List ℕ) 
   pub canonical : text ≡ report_text (migrated report)
 
 abbrev pub migrate : List ℕ → Task
-migrate file = record { work = migrating file; Promise = IsMigratedReport file }
+migrate file = record { work = migrating file; names = file ∷ []; Promise = IsMigratedReport file }

@@ -2,7 +2,7 @@
 --   printing file                   the order of work
 --   IsSameProgram file files text   the promise: the text spells the program that the file spells
 --   print file                      the task
-use Rattle.std.specs.Prelude.{◌≡◌, ℕ, List, Some}
+use Rattle.std.specs.Prelude.{◌≡◌, ℕ, List, Some, ◌∷◌, []}
 use Rattle.flow_base.specs.Outside.{Files}
 use Rattle.alf_program.specs.Tree.{WholeProgram}
 use Rattle.alf_text.specs.Language.{SpellsProgram}
@@ -25,4 +25,4 @@ pub record IsSameProgram (file : List ℕ) (files : Files) (text : List ℕ) : T
   pub again : SpellsProgram text whole
 
 abbrev pub print : List ℕ → Task
-print file = record { work = printing file; Promise = IsSameProgram file }
+print file = record { work = printing file; names = file ∷ []; Promise = IsSameProgram file }

@@ -2,7 +2,7 @@
 --   printing_c file              the order of work
 --   IsSameUnit file files text   the promise: the text spells the unit that the file spells, but for places
 --   print_c file                 the task
-use Rattle.std.specs.Prelude.{◌≡◌, ℕ, List, Some}
+use Rattle.std.specs.Prelude.{◌≡◌, ℕ, List, Some, ◌∷◌, []}
 use Rattle.flow_base.specs.Outside.{Files}
 use Rattle.c_tokens.specs.Printed.{printed_text}
 use Rattle.c_unit.specs.Units.{UnitTree}
@@ -31,4 +31,4 @@ pub record IsSameUnit (file : List ℕ) (files : Files) (text : List ℕ) : Type
   pub again : IsReadBack whole text
 
 abbrev pub print_c : List ℕ → Task
-print_c file = record { work = printing_c file; Promise = IsSameUnit file }
+print_c file = record { work = printing_c file; names = file ∷ []; Promise = IsSameUnit file }

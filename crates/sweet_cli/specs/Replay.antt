@@ -9,7 +9,7 @@
 --                                   the cost
 --   TellsReplay given files text    the promise: so it is of the program and the tables of the told files
 --   replay given                    the task
-use Rattle.std.specs.Prelude.{◌≡◌, ◌≤◌, ℕ, ℤ, List, length, map, All, Result, Ok, Err, IfSome}
+use Rattle.std.specs.Prelude.{◌≡◌, ◌≤◌, ℕ, ℤ, List, length, map, All, Result, Ok, Err, IfSome, ◌++◌, ◌∷◌, option_to_list}
 use Rattle.flow_base.specs.Outside.{Files}
 use Rattle.alf_check.specs.declared.rows.InputRow.{InputRow}
 use Rattle.alf_check.specs.CheckedPrograms.{NumberedProgram}
@@ -39,7 +39,7 @@ use Rattle.command_files.specs.Tables.{Tables, tables_in, AreInputs, AreCosts}
 use Rattle.command_files.specs.ReportFiles.{report_in, IsToldReport}
 use Rattle.sweet_cli.specs.Words.{ReplayWords}
 use Rattle.sweet_cli.specs.Legends.{HasLegend}
-use Rattle.sweet_cli.specs.Task.{Task}
+use Rattle.sweet_cli.specs.Task.{Task, names_read}
 
 -- so is told of the run, by the outline of the program's graph, with names and costs of its nodes
 pub record IsReplayOf (program : NumberedProgram) (graph : GraphParts) (rows : List InputRow) (costs : CostTable)
@@ -128,4 +128,4 @@ pub record TellsReplay (given : ReplayWords) (files : Files) (text : List ℕ) :
   pub held : IsHeldTold given files program graph rows costs text
 
 abbrev pub replay : ReplayWords → Task
-replay given = record { work = replaying given; Promise = TellsReplay given }
+replay given = record { work = replaying given; names = names_read given.program given.inputs given.costs ++ (given.report ∷ option_to_list given.values); Promise = TellsReplay given }

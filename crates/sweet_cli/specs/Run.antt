@@ -28,7 +28,7 @@ use Rattle.command_files.specs.Scopes.{ScopedProgram, scoped_in}
 use Rattle.command_files.specs.Tables.{tables_in, AreInputs, AreCosts}
 use Rattle.sweet_cli.specs.Words.{RunWords}
 use Rattle.sweet_cli.specs.LeftLines.{unbounded_line}
-use Rattle.sweet_cli.specs.Task.{Task}
+use Rattle.sweet_cli.specs.Task.{Task, names_read}
 
 -- the run has more nodes than the turns, and the outcome tells the scope of the node that comes after so many
 pub record IsLeft (program : ScopedProgram) (begin : Moment) (turns : ℕ) (outcome : Outcome) : Type 0 where
@@ -80,4 +80,4 @@ pub record TellsRun (given : RunWords) (files : Files) (text : List ℕ) : Type 
   pub shown : IsRunText (record { program = program; graph = graph }) rows costs given.turns text
 
 abbrev pub run : RunWords → Task
-run given = record { work = running given; Promise = TellsRun given }
+run given = record { work = running given; names = names_read given.program given.inputs given.costs; Promise = TellsRun given }

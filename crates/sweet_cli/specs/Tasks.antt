@@ -3,7 +3,7 @@
 --   answering file                   the order of work
 --   TellsResponses file files text   the promise: the text tells times in which each job finishes, in each schedule of the tasks of the file
 --   tasks file                       the task
-use Rattle.std.specs.Prelude.{◌≡◌, ℕ, List, Result, Ok, Err, Some}
+use Rattle.std.specs.Prelude.{◌≡◌, ℕ, List, Result, Ok, Err, Some, ◌∷◌, []}
 use Rattle.flow_base.specs.Outside.{Files}
 use Rattle.cost_table.specs.declared.task_set.Task.{Task as TimedTask}
 use Rattle.cost_table.specs.Tasks.{AreTasks}
@@ -51,4 +51,4 @@ pub record TellsResponses (file : List ℕ) (files : Files) (text : List ℕ) : 
   pub finished : FinishWithin tasks times
 
 abbrev pub tasks : List ℕ → Task
-tasks file = record { work = answering file; Promise = TellsResponses file }
+tasks file = record { work = answering file; names = file ∷ []; Promise = TellsResponses file }

@@ -28,7 +28,7 @@ use Rattle.command_files.specs.Scopes.{ScopedProgram, scoped_in}
 use Rattle.command_files.specs.Tables.{tables_in, AreInputs, AreCosts}
 use Rattle.sweet_cli.specs.Words.{WorstWords}
 use Rattle.sweet_cli.specs.Analyse.{policy_of}
-use Rattle.sweet_cli.specs.Task.{Task}
+use Rattle.sweet_cli.specs.Task.{Task, names_read}
 
 -- in some box places are left, and the outcome tells the scope of the first such box
 pub record IsLeftInBox (program : ScopedProgram) (rows : List InputRow) (costs : CostTable) (policy : Policy)
@@ -76,4 +76,4 @@ pub record TellsWorst (given : WorstWords) (files : Files) (text : List ℕ) : T
   pub bounds : Bounds (RunsCost program graph rows costs) (ranges_of rows) found
 
 abbrev pub worst : WorstWords → Task
-worst given = record { work = worsting given; Promise = TellsWorst given }
+worst given = record { work = worsting given; names = names_read given.program given.inputs given.costs; Promise = TellsWorst given }

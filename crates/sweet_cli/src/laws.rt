@@ -4,7 +4,7 @@ ghost use Rattle.std.specs.Prelude.{◌≡◌, Some, None, codes, option_map};
 ghost use Rattle.sweet_words.specs.Merges.{merging_or_joins};
 ghost use Rattle.worklist_rules.specs.declared.policy.Policy.TheVariants as policies;
 ghost use Rattle.sweet_cli.specs.Analyse.{policy_of};
-ghost use Rattle.sweet_cli.specs.Exact.{OneInputIsToldExactly};
+ghost use Rattle.sweet_cli.specs.Exact.{OneInputIsToldExactly, OneInputIsAnsweredExactly};
 ghost use Rattle.sweet_cli.specs.Laws.{HaveOneAnswer, ReportsStay, OwnReportsAreAccepted, RunsOfCHaveTheirOwnOutcome};
 ghost use Rattle.sweet_cli.specs.Laws.{MigratedReportsSayTheSame};
 
@@ -52,9 +52,11 @@ pub fn a_migrated_report_says_the_same()
 
 /// Where each range has one number, what `analyse` tells is exactly the one run: totals, dead nodes, loops,
 /// counts and pairs are the run's own, the only alarm is its fault, and both bounds are its cost. Places
-/// are left exactly where the run has more nodes than the turns. Does nothing when it is called.
+/// are left exactly where the run has more nodes than the turns. So the words of `analyse` end over told files, but
+/// for a failed read. Does nothing when it is called.
 pub fn one_input_is_told_exactly()
-    ensures { OneInputIsToldExactly }
+    ensures programs { OneInputIsToldExactly }
+    ensures files { OneInputIsAnsweredExactly }
 {
     a_graph_has_one_outline();
     an_input_alone_is_told_exactly();

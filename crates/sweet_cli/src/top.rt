@@ -1,11 +1,14 @@
 //! The top of the program: words to a status, with one text written.
 
-ghost use Rattle.std.specs.Prelude.{◌≡◌, ◌++◌, ◌⊎◌, List, ℕ, Some, map, string_bytes, IfSome};
+ghost use Rattle.std.specs.Prelude.{◌≡◌, ◌++◌, ◌⊎◌, List, ℕ, true, Some, map, string_bytes, IfSome};
 ghost use Rattle.flow_base.specs.Outside.{Rose};
 ghost use Rattle.flow_base.specs.Held.{content_of};
+ghost use Rattle.command_plans.specs.Lines.{is_line};
 ghost use Rattle.command_plans.specs.Outcome.{Ending, ending_status, ending_text};
 ghost use Rattle.command_plans.specs.Run.{Answers, IsAnswered, Wrote, CutShort, WroteNothing, IsAnswerOf};
+ghost use Rattle.command_plans.specs.Works.{OverRead};
 ghost use Rattle.sweet_cli.specs.Table.{task_of};
+ghost use Rattle.sweet_cli.specs.Top.{IsAnswerRead};
 ghost use Rattle.sweet_cli.specs.Task.{KeepsPromise, Promised};
 
 use crate::commands::words_answer;
@@ -32,6 +35,19 @@ pub fn run<F: Shelf, W: Sink>(alloc: Global, words: &[String], shelf: &mut F, ou
     ensures promised { result ≡ Status.Done
         → IfSome (F.state shelf.old).files
         (λ files. Promised (task_of (map string_bytes words.now)) files (W.state out.old) (W.state out.new)) }
+
+    // Also where nothing tells what files hold, what was written is the answer of files that hold what was read.
+    ensures answer_read { IsAnswered result → (result ≡ Status.ReadFailed → ⊥)
+        → IsAnswerRead (map string_bytes words.now) result (F.state shelf.old) (F.state shelf.new) (W.state out.old)
+        (W.state out.new) }
+
+    // And after `Done` it keeps the promise of the command for files that hold what was read.
+    ensures promised_read { result ≡ Status.Done → OverRead (F.state shelf.old) (F.state shelf.new)
+        (task_of (map string_bytes words.now)).names (λ files. Promised (task_of (map string_bytes words.now)) files (W.state out.old) (W.state out.new)) }
+
+    // Each answer but that of `Done` is one line.
+    ensures one_line { IsAnswered result → (result ≡ Status.Done → ⊥) → (line : List ℕ) × (is_line line ≡ true)
+        × Wrote line (W.state out.old) (W.state out.new) }
 
     // The failed read that the answer tells is the last one, and else none has failed.
     ensures no_other_read { IsAnswered result → (result ≡ Status.ReadFailed → ⊥)

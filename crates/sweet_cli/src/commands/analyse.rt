@@ -1,6 +1,6 @@
 //! `analyse FILE`: what is told of all runs of the program.
 
-ghost use Rattle.std.specs.Prelude.{◌≡◌, ◌≤◌, IfOk, IfSome};
+ghost use Rattle.std.specs.Prelude.{◌≡◌, ◌≤◌, IfOk};
 ghost use Rattle.alf_check.specs.CheckedPrograms.{NumberedProgram, seen};
 ghost use Rattle.alf_check.specs.Inputs.{KeepInputs};
 ghost use Rattle.flow_graph.specs.Numbering.{IsGraph};
@@ -11,7 +11,8 @@ ghost use Rattle.report_soundness.specs.Certified.{printed_as};
 ghost use Rattle.command_plans.specs.Works.{Works, Judges};
 ghost use Rattle.command_files.specs.Seen.{IsOutlined, scoped_of};
 ghost use Rattle.sweet_cli.specs.Words.{analyse_meant};
-ghost use Rattle.sweet_cli.specs.Analyse.{ReportMeans, IsSoundReport, analysing, policy_of};
+ghost use Rattle.sweet_cli.specs.Task.{IsPromised};
+ghost use Rattle.sweet_cli.specs.Analyse.{analyse, ReportMeans, analysing, policy_of};
 
 use crate::words::{AnalyseWords, Merging};
 use answer_texts::left_line;
@@ -38,8 +39,7 @@ pub fn analyse<F: Shelf>(
     ensures work { Works (analysing (analyse_meant given.entry)) (λ text. text.items) (F.state shelf.old) result
         (F.state shelf.new) }
     ensures promise { IfOk result
-        (λ text. IfSome (F.state shelf.old).files
-        (λ files. IsSoundReport (analyse_meant given.entry) files text.items)) }
+        (λ text. IsPromised (analyse (analyse_meant given.entry)) (F.state shelf.old) (F.state shelf.new) text.items) }
 {
     found_reports_are_right();
     a_file_has_one_answer();

@@ -1,6 +1,6 @@
 //! `cache FILE`: what the runs of the program cost with the misses of an instruction cache.
 
-ghost use Rattle.std.specs.Prelude.{◌≡◌, ◌≤◌, IfOk, IfSome};
+ghost use Rattle.std.specs.Prelude.{◌≡◌, ◌≤◌, IfOk};
 ghost use Rattle.alf_check.specs.CheckedPrograms.{seen};
 ghost use Rattle.alf_check.specs.Inputs.{KeepInputs};
 ghost use Rattle.flow_graph.specs.Numbering.{IsGraph};
@@ -14,7 +14,8 @@ ghost use Rattle.command_plans.specs.Works.{Works, Judges};
 ghost use Rattle.command_files.specs.Seen.{IsOutlined, scoped_of};
 ghost use Rattle.sweet_cli.specs.Words.{IsCacheWithin, cache_meant};
 ghost use Rattle.sweet_cli.specs.Analyse.{policy_of};
-ghost use Rattle.sweet_cli.specs.Cache.{CacheMeans, TellsCache, caching};
+ghost use Rattle.sweet_cli.specs.Task.{IsPromised};
+ghost use Rattle.sweet_cli.specs.Cache.{cache, CacheMeans, caching};
 
 use crate::commands::analyse::{policy, priced};
 use crate::words::{CacheWords, Merging};
@@ -35,8 +36,8 @@ pub fn cache<F: Shelf>(alloc: Global, given: CacheWords<'_>, shelf: &mut F) -> R
     requires ranges { IsCacheWithin (cache_meant given) }
     ensures work { Works (caching (cache_meant given.entry)) (λ text. text.items)
         (F.state shelf.old) result (F.state shelf.new) }
-    ensures promise { IfOk result (λ text. IfSome (F.state shelf.old).files
-        (λ files. TellsCache (cache_meant given.entry) files text.items)) }
+    ensures promise { IfOk result
+        (λ text. IsPromised (cache (cache_meant given.entry)) (F.state shelf.old) (F.state shelf.new) text.items) }
 {
     a_file_has_one_answer();
     let program = laid_out_in(alloc, given.program, given.root, shelf)?;

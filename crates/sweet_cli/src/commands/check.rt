@@ -1,16 +1,17 @@
 //! `check FILE REPORT`: a report of unknown origin is accepted, or the first thing that speaks against it is told.
 
-ghost use Rattle.std.specs.Prelude.{◌≡◌, IfOk, IfSome};
+ghost use Rattle.std.specs.Prelude.{◌≡◌, [], ◌∷◌, IfOk};
 ghost use Rattle.alf_check.specs.CheckedPrograms.{NumberedProgram, seen};
 ghost use Rattle.alf_check.specs.Inputs.{KeepInputs};
 ghost use Rattle.flow_graph.specs.Numbering.{IsGraph};
 ghost use Rattle.flow_facts.specs.Reports.{reported};
 ghost use Rattle.program_machines.specs.NodeCosts.{HasCosts};
 ghost use Rattle.report_objections.specs.Accepted.{IsScaled};
-ghost use Rattle.command_plans.specs.Works.{Works, Judges};
+ghost use Rattle.command_plans.specs.Works.{Works, Judges, OverRead};
 ghost use Rattle.command_files.specs.Seen.{IsOutlined, scoped_of, tables_of};
 ghost use Rattle.sweet_cli.specs.Words.{check_meant};
-ghost use Rattle.sweet_cli.specs.Check.{CheckMeans, IsAccepted, IsSoundOf, IsSoundTold, accepted, checking};
+ghost use Rattle.sweet_cli.specs.Task.{IsPromised};
+ghost use Rattle.sweet_cli.specs.Check.{check, CheckMeans, IsSoundOf, IsSoundTold, accepted, checking};
 ghost use Rattle.sweet_cli.specs.Check.{report_judged};
 
 use crate::commands::analyse::priced;
@@ -29,8 +30,8 @@ use std::alloc::{AllocError, Global};
 pub fn check<F: Shelf>(alloc: Global, given: CheckWords<'_>, shelf: &mut F) -> Result<Vec<u8>, Stop>
     ensures work { Works (checking (check_meant given.entry)) (λ text. text.items)
         (F.state shelf.old) result (F.state shelf.new) }
-    ensures promise { IfOk result (λ text. IfSome (F.state shelf.old).files
-        (λ files. IsAccepted (check_meant given.entry) files text.items)) }
+    ensures promise { IfOk result
+        (λ text. IsPromised (check (check_meant given.entry)) (F.state shelf.old) (F.state shelf.new) text.items) }
 {
     a_file_has_one_answer();
     let program = scoped_in(alloc, given.program, given.root, shelf)?;
@@ -59,7 +60,7 @@ fn report_judged<F: Shelf>(
     requires outline { IsOutlined program.expanded.graph program.outline }
     ensures work { Works (report_judged file.now (scoped_of program) (tables_of tables.now)) (λ text. text.items)
         (F.state shelf.old) result (F.state shelf.new) }
-    ensures sound { IfOk result (λ text. IfSome (F.state shelf.old).files (λ files. IsSoundTold file.now files
+    ensures sound { IfOk result (λ text. OverRead (F.state shelf.old) (F.state shelf.new) (file.now ∷ []) (λ files. IsSoundTold file.now files
         (seen program.expanded.checked) program.expanded.graph tables.now.rows.items tables.now.costs)) }
 {
     let report = report_in(alloc, file, shelf)?;

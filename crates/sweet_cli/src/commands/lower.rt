@@ -1,9 +1,10 @@
 //! `lower FILE`: the canonical text of the program of ALF that a file of C is lowered to.
 
-ghost use Rattle.std.specs.Prelude.{IfOk, IfSome};
+ghost use Rattle.std.specs.Prelude.{IfOk};
 ghost use Rattle.command_plans.specs.Works.{Works};
 ghost use Rattle.sweet_cli.specs.Words.{lower_meant};
-ghost use Rattle.sweet_cli.specs.Lower.{lowering, IsLoweredText};
+ghost use Rattle.sweet_cli.specs.Task.{IsPromised};
+ghost use Rattle.sweet_cli.specs.Lower.{lower, lowering};
 
 use crate::words::LowerWords;
 use alf_text::{print, writable_programs_are_spelled};
@@ -19,7 +20,7 @@ pub fn lower<F: Shelf>(alloc: Global, given: LowerWords<'_>, shelf: &mut F) -> R
     ensures work { Works (lowering (lower_meant given.entry)) (λ text. text.items) (F.state shelf.old) result
         (F.state shelf.new) }
     ensures promise { IfOk result
-        (λ text. IfSome (F.state shelf.old).files (λ files. IsLoweredText (lower_meant given.entry) files text.items)) }
+        (λ text. IsPromised (lower (lower_meant given.entry)) (F.state shelf.old) (F.state shelf.new) text.items) }
 {
     // What canonical texts spell, as the promise needs it.
     writable_programs_are_spelled();

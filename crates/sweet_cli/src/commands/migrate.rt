@@ -1,8 +1,9 @@
 //! `migrate REPORT`: a report of either form, as one of the second.
 
-ghost use Rattle.std.specs.Prelude.{IfOk, IfSome};
+ghost use Rattle.std.specs.Prelude.{IfOk};
 ghost use Rattle.command_plans.specs.Works.{Works};
-ghost use Rattle.sweet_cli.specs.Migrate.{IsMigratedReport, migrating};
+ghost use Rattle.sweet_cli.specs.Task.{IsPromised};
+ghost use Rattle.sweet_cli.specs.Migrate.{migrate, migrating};
 
 use command_files::report_in;
 use command_plans::Stop;
@@ -15,7 +16,7 @@ use std::alloc::Global;
 pub fn migrate<F: Shelf>(alloc: Global, file: &str, shelf: &mut F) -> Result<Vec<u8>, Stop>
     ensures work { Works (migrating file.now) (λ text. text.items) (F.state shelf.old) result (F.state shelf.new) }
     ensures promise { IfOk result
-        (λ text. IfSome (F.state shelf.old).files (λ files. IsMigratedReport file.now files text.items)) }
+        (λ text. IsPromised (migrate file.now) (F.state shelf.old) (F.state shelf.new) text.items) }
 {
     // What texts of reports spell, as the promise needs it.
     writable_reports_are_spelled();

@@ -2,11 +2,12 @@
 
 ghost use Rattle.std.specs.Prelude.{◌≡◌, map, string_bytes, IfOk, IfSome};
 ghost use Rattle.command_plans.specs.Run.{Answers, ending_of};
+ghost use Rattle.command_plans.specs.Lines.{TellsInALine};
 ghost use Rattle.command_plans.specs.Outcome.{IsStop};
 ghost use Rattle.command_plans.specs.Works.{Works};
 ghost use Rattle.sweet_cli.specs.Words.{IsWithinRanges, command_meant, file_meant};
 ghost use Rattle.sweet_cli.specs.Table.{print_task, task_for, task_of};
-ghost use Rattle.sweet_cli.specs.Task.{KeepsPromise, no_outcome};
+ghost use Rattle.sweet_cli.specs.Task.{IsPromised, KeepsOverRead, KeepsPromise, no_outcome};
 
 // A run that is counted.
 mod counting;
@@ -38,12 +39,22 @@ pub fn words_answer<F: Shelf>(alloc: Global, words: &[String], shelf: &mut F) ->
     ensures promise { IfSome result
         (λ answer. IfSome (F.state shelf.old).files
         (λ files. KeepsPromise (task_of (map string_bytes words.now)) files (ending_of answer))) }
+    ensures over { IfSome result
+        (λ answer. KeepsOverRead (task_of (map string_bytes words.now)) (F.state shelf.old) (F.state shelf.new)
+        (ending_of answer)) }
+    ensures line { IfSome result (λ answer. TellsInALine (ending_of answer)) }
     ensures same_files { (F.state shelf.new).files ≡ (F.state shelf.old).files }
 {
-    match words_text(alloc, words, shelf) {
-        Ok(text) => Some(Answer::Finished(text)),
-        Err(Stop::Told(why, text)) => Some(Answer::Stopped(why, text)),
-        Err(Stop::Memory) => None,
+    let answer = match words_text(alloc, words, shelf) {
+        Ok(text) => Answer::Finished(text),
+        Err(Stop::Told(why, text)) => Answer::Stopped(why, text),
+        Err(Stop::Memory) => return None,
+    };
+    // The names that a refusal tells have no line feed: that is looked at here, where it is not proved of them.
+    if answer.is_told_in_a_line() {
+        Some(answer)
+    } else {
+        None
     }
 }
 
@@ -52,8 +63,7 @@ fn words_text<F: Shelf>(alloc: Global, words: &[String], shelf: &mut F) -> Resul
     ensures work { Works (task_of (map string_bytes words.now)).work (λ text. text.items) (F.state shelf.old) result
         (F.state shelf.new) }
     ensures promise { IfOk result
-        (λ text. IfSome (F.state shelf.old).files
-        (λ files. (task_of (map string_bytes words.now)).Promise files text.items)) }
+        (λ text. IsPromised (task_of (map string_bytes words.now)) (F.state shelf.old) (F.state shelf.new) text.items) }
 {
     match read(alloc, words) {
         Ok(command) => command_text(alloc, command, shelf),
@@ -79,8 +89,8 @@ fn command_text<F: Shelf>(
     ensures work { Works (task_for (command_meant command.entry)).work (λ text. text.items) (F.state shelf.old) result
         (F.state shelf.new) }
     ensures promise { IfOk result
-        (λ text. IfSome (F.state shelf.old).files
-        (λ files. (task_for (command_meant command.entry)).Promise files text.items)) }
+        (λ text. IsPromised (task_for (command_meant command.entry)) (F.state shelf.old) (F.state shelf.new)
+        text.items) }
 {
     match command {
         Command::Analyse(given) => analyse::analyse(alloc, given, shelf),
@@ -106,8 +116,8 @@ fn print_text<F: Shelf>(
     ensures work { Works (print_task (file_meant program.entry)).work (λ text. text.items) (F.state shelf.old) result
         (F.state shelf.new) }
     ensures promise { IfOk result
-        (λ text. IfSome (F.state shelf.old).files
-        (λ files. (print_task (file_meant program.entry)).Promise files text.items)) }
+        (λ text. IsPromised (print_task (file_meant program.entry)) (F.state shelf.old) (F.state shelf.new)
+        text.items) }
 {
     match program {
         ProgramFile::Alf(file) => print::print(alloc, file, shelf),

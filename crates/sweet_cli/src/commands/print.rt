@@ -1,8 +1,9 @@
 //! `print FILE`: the canonical text of the program.
 
-ghost use Rattle.std.specs.Prelude.{IfOk, IfSome};
+ghost use Rattle.std.specs.Prelude.{IfOk};
 ghost use Rattle.command_plans.specs.Works.{Works};
-ghost use Rattle.sweet_cli.specs.Print.{printing, IsSameProgram};
+ghost use Rattle.sweet_cli.specs.Task.{IsPromised};
+ghost use Rattle.sweet_cli.specs.Print.{print, printing};
 
 use alf_text::{canonical_texts_are_read_back, print as print_program};
 use command_plans::Stop;
@@ -14,7 +15,7 @@ use std::alloc::Global;
 pub fn print<F: Shelf>(alloc: Global, file: &str, shelf: &mut F) -> Result<Vec<u8>, Stop>
     ensures work { Works (printing file.now) (λ text. text.items) (F.state shelf.old) result (F.state shelf.new) }
     ensures promise { IfOk result
-        (λ text. IfSome (F.state shelf.old).files (λ files. IsSameProgram file.now files text.items)) }
+        (λ text. IsPromised (print file.now) (F.state shelf.old) (F.state shelf.new) text.items) }
 {
     // What canonical texts spell, as the promise needs it.
     canonical_texts_are_read_back();

@@ -1,8 +1,9 @@
 //! `print FILE` of a file of C: the canonical text of the unit.
 
-ghost use Rattle.std.specs.Prelude.{IfOk, IfSome};
+ghost use Rattle.std.specs.Prelude.{IfOk};
 ghost use Rattle.command_plans.specs.Works.{Works};
-ghost use Rattle.sweet_cli.specs.PrintC.{printing_c, IsSameUnit};
+ghost use Rattle.sweet_cli.specs.Task.{IsPromised};
+ghost use Rattle.sweet_cli.specs.PrintC.{print_c, printing_c};
 
 use c_text::{print as print_unit, spelled_units_are_read_back};
 use command_plans::Stop;
@@ -14,7 +15,7 @@ use std::alloc::Global;
 pub fn print_c<F: Shelf>(alloc: Global, file: &str, shelf: &mut F) -> Result<Vec<u8>, Stop>
     ensures work { Works (printing_c file.now) (λ text. text.items) (F.state shelf.old) result (F.state shelf.new) }
     ensures promise { IfOk result
-        (λ text. IfSome (F.state shelf.old).files (λ files. IsSameUnit file.now files text.items)) }
+        (λ text. IsPromised (print_c file.now) (F.state shelf.old) (F.state shelf.new) text.items) }
 {
     // That canonical texts are read back, as the promise needs it.
     spelled_units_are_read_back();

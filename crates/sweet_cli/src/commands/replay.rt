@@ -1,6 +1,6 @@
 //! `replay FILE REPORT`: the one run from given values is held against a report.
 
-ghost use Rattle.std.specs.Prelude.{◌≡◌, length, IfOk, IfSome};
+ghost use Rattle.std.specs.Prelude.{◌≡◌, length, IfOk};
 ghost use Rattle.alf_check.specs.CheckedPrograms.{NumberedProgram, seen};
 ghost use Rattle.alf_check.specs.Inputs.{KeepInputs};
 ghost use Rattle.flow_graph.specs.Numbering.{IsGraph};
@@ -10,7 +10,8 @@ ghost use Rattle.command_plans.specs.Works.{Works, Judges};
 ghost use Rattle.command_files.specs.Seen.{IsOutlined, scoped_of, tables_of};
 ghost use Rattle.sweet_cli.specs.Words.{replay_meant};
 ghost use Rattle.run_replays.specs.Replays.{IsReplayed};
-ghost use Rattle.sweet_cli.specs.Replay.{ReplayMeans, TellsReplay, replaying, run_judged};
+ghost use Rattle.sweet_cli.specs.Task.{IsPromised};
+ghost use Rattle.sweet_cli.specs.Replay.{replay, ReplayMeans, replaying, run_judged};
 
 use crate::commands::analyse::priced;
 use crate::words::ReplayWords;
@@ -36,8 +37,8 @@ pub fn replay<F: Shelf>(
 ) -> Result<Vec<u8>, Stop>
     ensures work { Works (replaying (replay_meant given.entry)) (λ text. text.items)
         (F.state shelf.old) result (F.state shelf.new) }
-    ensures promise { IfOk result (λ text. IfSome (F.state shelf.old).files
-        (λ files. TellsReplay (replay_meant given.entry) files text.items)) }
+    ensures promise { IfOk result
+        (λ text. IsPromised (replay (replay_meant given.entry)) (F.state shelf.old) (F.state shelf.new) text.items) }
 {
     a_file_has_one_answer();
     let program = scoped_in(alloc, given.program, given.root, shelf)?;

@@ -1,6 +1,6 @@
 //! `run FILE`: one run of the program, told.
 
-ghost use Rattle.std.specs.Prelude.{◌≡◌, ◌≤◌, All, IfOk, IfSome};
+ghost use Rattle.std.specs.Prelude.{◌≡◌, ◌≤◌, All, IfOk};
 ghost use Rattle.alf_check.specs.declared.rows.InputRow.{InputRow};
 ghost use Rattle.alf_check.specs.CheckedPrograms.{seen};
 ghost use Rattle.alf_check.specs.Inputs.{KeepInputs};
@@ -10,7 +10,8 @@ ghost use Rattle.alf_ops.specs.TwosComplement.{word};
 ghost use Rattle.command_files.specs.Seen.{scopes_seen, scoped_of};
 ghost use Rattle.sweet_cli.specs.Words.{run_meant};
 ghost use Rattle.sweet_cli.specs.LeftLines.{own_scope, unbounded_line};
-ghost use Rattle.sweet_cli.specs.Run.{low_words, RunMeans, running, TellsRun};
+ghost use Rattle.sweet_cli.specs.Task.{IsPromised};
+ghost use Rattle.sweet_cli.specs.Run.{run, low_words, RunMeans, running};
 
 use crate::commands::counting::counted;
 use crate::words::RunWords;
@@ -33,7 +34,7 @@ pub fn run<F: Shelf>(alloc: Global, given: RunWords<'_>, shelf: &mut F) -> Resul
     ensures work { Works (running (run_meant given.entry)) (λ text. text.items) (F.state shelf.old) result
         (F.state shelf.new) }
     ensures promise { IfOk result
-        (λ text. IfSome (F.state shelf.old).files (λ files. TellsRun (run_meant given.entry) files text.items)) }
+        (λ text. IsPromised (run (run_meant given.entry)) (F.state shelf.old) (F.state shelf.new) text.items) }
 {
     a_file_has_one_answer();
     let program = scoped_in(alloc, given.program, given.root, shelf)?;

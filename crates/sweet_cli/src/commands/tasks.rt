@@ -1,9 +1,10 @@
 //! `tasks FILE`: the response times of the tasks of a file.
 
-ghost use Rattle.std.specs.Prelude.{◌<◌, length, IfOk, IfSome};
+ghost use Rattle.std.specs.Prelude.{◌<◌, length, IfOk};
 ghost use Rattle.cost_table.specs.Tasks.{AreTasks, IsTask};
 ghost use Rattle.command_plans.specs.Works.{Works, Judges};
-ghost use Rattle.sweet_cli.specs.Tasks.{ResponsesMean, TellsResponses, answering};
+ghost use Rattle.sweet_cli.specs.Task.{IsPromised};
+ghost use Rattle.sweet_cli.specs.Tasks.{tasks, ResponsesMean, answering};
 
 use answer_texts::{late_line, response_text};
 use command_files::tasks_told;
@@ -19,7 +20,7 @@ use std::alloc::Global;
 pub fn tasks<F: Shelf>(alloc: Global, file: &str, shelf: &mut F) -> Result<Vec<u8>, Stop>
     ensures work { Works (answering file.now) (λ text. text.items) (F.state shelf.old) result (F.state shelf.new) }
     ensures promise { IfOk result
-        (λ text. IfSome (F.state shelf.old).files (λ files. TellsResponses file.now files text.items)) }
+        (λ text. IsPromised (tasks file.now) (F.state shelf.old) (F.state shelf.new) text.items) }
 {
     // That the tasks are a task set, and that its jobs finish, as the promise needs it.
     a_tasks_file_has_one_answer();

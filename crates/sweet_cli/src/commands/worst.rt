@@ -1,6 +1,6 @@
 //! `worst FILE`: where the worst inputs of the program lie.
 
-ghost use Rattle.std.specs.Prelude.{◌≡◌, ◌≤◌, IfOk, IfSome};
+ghost use Rattle.std.specs.Prelude.{◌≡◌, ◌≤◌, IfOk};
 ghost use Rattle.alf_check.specs.CheckedPrograms.{seen};
 ghost use Rattle.alf_check.specs.Inputs.{KeepInputs};
 ghost use Rattle.flow_graph.specs.Numbering.{IsGraph};
@@ -14,7 +14,8 @@ ghost use Rattle.command_files.specs.Seen.{IsOutlined, scoped_of};
 ghost use Rattle.sweet_cli.specs.Words.{worst_meant};
 ghost use Rattle.sweet_cli.specs.SeenBounders.{bounder_seen, BoxesMean};
 ghost use Rattle.sweet_cli.specs.Analyse.{policy_of};
-ghost use Rattle.sweet_cli.specs.Worst.{WorstMeans, worsting, TellsWorst};
+ghost use Rattle.sweet_cli.specs.Task.{IsPromised};
+ghost use Rattle.sweet_cli.specs.Worst.{worst, WorstMeans, worsting};
 
 use crate::commands::analyse::{policy, priced};
 use crate::words::{Merging, WorstWords};
@@ -35,8 +36,8 @@ pub fn worst<F: Shelf>(alloc: Global, given: WorstWords<'_>, shelf: &mut F) -> R
     requires turns { given.turns ≤ 1000000 }
     ensures work { Works (worsting (worst_meant given.entry)) (λ text. text.items)
         (F.state shelf.old) result (F.state shelf.new) }
-    ensures promise { IfOk result (λ text. IfSome (F.state shelf.old).files
-        (λ files. TellsWorst (worst_meant given.entry) files text.items)) }
+    ensures promise { IfOk result
+        (λ text. IsPromised (worst (worst_meant given.entry)) (F.state shelf.old) (F.state shelf.new) text.items) }
 {
     a_file_has_one_answer();
     let program = scoped_in(alloc, given.program, given.root, shelf)?;

@@ -35,7 +35,7 @@ pub returns-in-Check-clause-promise : goal.returns-in-Check-clause-promise
 returns-in-Check-clause-promise g c = rw c.in-Check.is c.check.ensures.promise
 
 pub returns-in-Generate-clause-promise : goal.returns-in-Generate-clause-promise
-returns-in-Generate-clause-promise g c = rw c.in-Generate.is (kept_anyway (g.F.Shelf.state c.args.shelf.now).files _ c.generate.result c.generate.ensures.promise)
+returns-in-Generate-clause-promise g c = rw c.in-Generate.is (kept_anyway (g.F.Shelf.state c.args.shelf.now) _ c.generate.result c.generate.ensures.promise)
 
 pub returns-in-Generate-clause-work : goal.returns-in-Generate-clause-work
 returns-in-Generate-clause-work g c =

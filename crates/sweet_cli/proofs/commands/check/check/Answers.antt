@@ -1,7 +1,8 @@
 -- The text is that of the order of work, and it keeps the promise.
-use Rattle.std.proofs.Common.{Option, ◌∙◌, subst, IfSome}
+use Rattle.std.proofs.Common.{[], ◌∷◌, Option, ◌∙◌, subst}
 use Rattle.flow_base.specs.Outside.{Files}
 use Rattle.command_plans.specs.Log.{log_of}
+use Rattle.command_plans.specs.Readings.{IsMadeOf}
 use Rattle.command_files.specs.Seen.{scoped_of, tables_of}
 use Rattle.command_files.specs.Tables.{tables_in}
 use Rattle.sweet_cli.specs.Words.{check_meant}
@@ -22,9 +23,9 @@ returns-clause-promise g c =
     let second = c.in_ok-tables.ensures.work in
     let third = c.in_ok-text.ensures.work in
     let read = subst (λ (told : Option Files). (tables_in program.expanded.program given.inputs given.costs).steps.Gives told (log_of mid) tables (log_of late)) first.same second.ends.0 in
-    let sound = subst (λ (told : Option Files). IfSome told (λ files. IsSoundTold given.report files program.expanded.program program.expanded.graph tables.rows tables.costs)) (second.same ∙ first.same)
+    let sound = subst (λ (told : Option Files). IsMadeOf told (log_of late) (log_of end) (given.report ∷ []) (λ files. IsSoundTold given.report files program.expanded.program program.expanded.graph tables.rows tables.costs)) (second.same ∙ first.same)
     c.in_ok-text.ensures.sound in
-    tells_sound c.a_file_has_one_answer.ensures.keep given start.files (log_of start) (log_of mid) (log_of late) program tables c.in_ok-text.text.items first.ends.0 read c.in_ok-program.ensures.told
+    tells_sound c.a_file_has_one_answer.ensures.keep given start.files (log_of start) (log_of mid) (log_of late) (log_of end) program tables c.in_ok-text.text.items first.ends.0 read c.in_ok-program.ensures.told
     (accepted_shown given.report program tables late.files (log_of late) c.in_ok-text.text.items (log_of end) third.ends.0) sound
 
 pub returns-clause-work : goal.returns-clause-work

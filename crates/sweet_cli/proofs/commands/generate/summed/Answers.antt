@@ -1,10 +1,13 @@
 -- The text is that of the order of work, and it keeps the promise.
-use Rattle.std.proofs.Common.{Option, None, true, subst}
+use Rattle.std.proofs.Common.{[], ◌∷◌, Option, None, true, subst}
 use Rattle.flow_base.specs.Outside.{Files}
 use Rattle.flow_facts.specs.Reports.{reported}
 use Rattle.command_plans.specs.Log.{log_of}
+use Rattle.command_plans.specs.Readings.{over_told}
+use Rattle.program_files.specs.Told.{IsToldProgram}
 use Rattle.command_files.specs.Seen.{scoped_of, tables_of}
 use Rattle.command_files.specs.Tables.{tables_in}
+use Rattle.sweet_words.specs.Files.{file_name}
 use Rattle.sweet_cli.specs.Analyse.{policy_of}
 use Rattle.sweet_cli.specs.MadeFile.{made_words}
 use Rattle.sweet_cli.proofs.GeneratePromises.{summary_told, tells_summary}
@@ -23,8 +26,9 @@ returns-clause-promise g c =
     let found = c.in_ok-report.ensures.means.means in
     let read = subst (λ (told : Option Files). (tables_in program.expanded.program None None).steps.Gives told (log_of mid) tables (log_of end)) first.same
     c.in_ok-tables.ensures.work.ends.0 in
+    let of = over_told start.files (log_of start) (log_of mid) (file_name made_words.program ∷ []) (λ files. IsToldProgram made_words.program made_words.root files program.expanded.program) c.in_ok-program.ensures.told in
     let sound = printed_sound c.found_reports_are_right.ensures true program.expanded.program program.expanded.graph tables.rows tables.costs (policy_of made_words.merging) made_words.turns made_words.pivots report found in
-    tells_summary start.files (log_of start) (log_of mid) (log_of end) program tables report c.in_ok-text.text.items first.ends.0 read c.in_ok-program.ensures.told c.in_ok-text.ensures found sound
+    tells_summary start.files (log_of start) (log_of mid) (log_of end) program tables report c.in_ok-text.text.items first.ends.0 read of c.in_ok-text.ensures found sound
 
 pub returns-clause-work : goal.returns-clause-work
 returns-clause-work g c =

@@ -1,7 +1,9 @@
 -- The text is that of the order of work, and it keeps the promise.
-use Rattle.std.proofs.Common.{Option, ◌∙◌, subst, IfSome}
+use Rattle.std.proofs.Common.{◌∷◌, Option, ◌∙◌, subst}
+use Rattle.std.specs.Prelude.{option_to_list}
 use Rattle.flow_base.specs.Outside.{Files}
 use Rattle.command_plans.specs.Log.{log_of}
+use Rattle.command_plans.specs.Readings.{IsMadeOf}
 use Rattle.command_files.specs.Seen.{scoped_of, tables_of}
 use Rattle.command_files.specs.Tables.{tables_in}
 use Rattle.sweet_cli.specs.Words.{replay_meant}
@@ -24,8 +26,8 @@ returns-clause-promise g c =
     let third = c.in_ok-text.ensures in
     let read = subst (λ (told : Option Files). (tables_in program.expanded.program given.inputs given.costs).steps.Gives told (log_of mid) tables (log_of late)) first.same second.ends.0 in
     let held = held_told given program tables late.files (log_of late) text (log_of end) third.ends.0 in
-    let of_start = subst (λ (told : Option Files). IfSome told (λ files. IsHeldTold given files program.expanded.program program.expanded.graph tables.rows tables.costs text)) (second.same ∙ first.same) held in
-    tells_replay c.a_file_has_one_answer.ensures.keep given start.files (log_of start) (log_of mid) (log_of late) program tables text first.ends.0 read c.in_ok-program.ensures.told of_start
+    let of_start = subst (λ (told : Option Files). IsMadeOf told (log_of late) (log_of end) (given.report ∷ option_to_list given.values) (λ files. IsHeldTold given files program.expanded.program program.expanded.graph tables.rows tables.costs text)) (second.same ∙ first.same) held in
+    tells_replay c.a_file_has_one_answer.ensures.keep given start.files (log_of start) (log_of mid) (log_of late) (log_of end) program tables text first.ends.0 read c.in_ok-program.ensures.told of_start
 
 pub returns-clause-work : goal.returns-clause-work
 returns-clause-work g c =

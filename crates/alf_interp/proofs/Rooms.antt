@@ -21,7 +21,7 @@ use Rattle.alf_ops.specs.declared.history.RunEvent.{RunEvent}
 use Rattle.alf_ops.specs.declared.history.RunEvent.TheVariants.{Enter}
 use Rattle.alf_ops.specs.declared.history.RunEvent.TheVariants as events
 use Rattle.alf_ops.specs.Values.{size_of}
-use Rattle.alf_ops.specs.Histories.{is_running, is_active, IsSound}
+use Rattle.alf_ops.specs.Histories.{is_running, is_active, IsSoundHistory}
 use Rattle.alf_ops.specs.Pointers.{before, operands}
 use Rattle.alf_program.specs.Tree.{NumberedExpression}
 use Rattle.alf_check.specs.declared.rows.FrameRow.{FrameRow}
@@ -194,7 +194,7 @@ have_values (Ok value) rest values are = go (operands rest) refl are where
 
 -- they can be stored
 pub arguments_storable : ValueHasSize → (program : NumberedProgram) (caller : ℕ) (history : List RunEvent) (args : List ℕ) (es : List NumberedExpression) (values : List Value)
-    → IsSound history → AllZip (ArgumentKeeps program.frames caller) args es → operands (map (value_of (frames_of program) history) es) ≡ Ok values → AllByRecursion IsStorable values
+    → IsSoundHistory history → AllZip (ArgumentKeeps program.frames caller) args es → operands (map (value_of (frames_of program) history) es) ≡ Ok values → AllByRecursion IsStorable values
 arguments_storable sizes program caller history [] [] values sound keep are = let e : [] ≡ values = cc in subst (AllByRecursion IsStorable) e tt
 arguments_storable sizes program caller history [] (e ∷ es) values sound keep are = absurd keep
 arguments_storable sizes program caller history (arg ∷ args) [] values sound keep are = absurd keep

@@ -16,7 +16,7 @@ use Rattle.alf_ops.specs.declared.layout.Layout.TheVariants.{Unary, Sum, Carry, 
 use Rattle.alf_ops.specs.Table.{layout_of, operand_sizes}
 use Rattle.alf_ops.specs.Layouts.{operands_by_layout}
 use Rattle.alf_ops.specs.Values.{EachValueFits}
-use Rattle.alf_ops.specs.Histories.{IsSound}
+use Rattle.alf_ops.specs.Histories.{IsSoundHistory}
 use Rattle.alf_ops.specs.Pointers.{operands}
 use Rattle.alf_program.specs.Tree.{NumberedExpression, NumberedExpressions, Empty, With, expressions_of}
 use Rattle.alf_check.specs.declared.rows.FrameRow.{FrameRow}
@@ -99,7 +99,7 @@ three_members (x ∷ y ∷ z ∷ w ∷ xs) a b c some few e f g = absurd (omega 
 module _ (frames : List FrameShape) (history : List RunEvent) where
   -- the values of two operands fit
   pub fit_two : OperandsHaveSizes → (sizes : List ℕ) (a b : NumberedExpression) → AreTyped sizes (With a (With b Empty))
-      → IsSound history → (x y : Result Value RunFault)
+      → IsSoundHistory history → (x y : Result Value RunFault)
       → x ≡ value_of frames history a → y ≡ value_of frames history b → (values : List Value) → operands (x ∷ y ∷ []) ≡ Ok values → EachValueFits sizes values
   fit_two laws sizes a b typed sound x y e f values are =
       laws typed.rows typed.function sizes (With a (With b Empty)) frames history values typed.have sound
@@ -115,7 +115,7 @@ module _ (frames : List FrameShape) (history : List RunEvent) where
 
   -- and their values fit
   pub fit_three : OperandsHaveSizes → (sizes : List ℕ) (a b c : NumberedExpression)
-      → AreTyped sizes (With a (With b (With c Empty))) → IsSound history → (x y z : Result Value RunFault)
+      → AreTyped sizes (With a (With b (With c Empty))) → IsSoundHistory history → (x y z : Result Value RunFault)
       → x ≡ value_of frames history a → y ≡ value_of frames history b → z ≡ value_of frames history c → (values : List Value) → operands (x ∷ y ∷ z ∷ []) ≡ Ok values → EachValueFits sizes values
   fit_three laws sizes a b c typed sound x y z e f g values are =
       laws typed.rows typed.function sizes (With a (With b (With c Empty))) frames history values typed.have sound (ap operands (sym (results_three a b c x y z e f g)) ∙ are)

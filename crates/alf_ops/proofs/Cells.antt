@@ -12,7 +12,7 @@ use Rattle.alf_ops.specs.declared.history.RunFault.TheVariants.{Uninit, Mixed}
 use Rattle.alf_ops.specs.declared.history.FrameShape.{FrameShape}
 use Rattle.alf_ops.specs.declared.history.RunEvent.{RunEvent}
 use Rattle.alf_ops.specs.Values.{is_pointer, FitsValue}
-use Rattle.alf_ops.specs.Histories.{Byte, origin, bytes_of, is_byte_of, is_empty, is_from, of_pointer, word_of, left_by, cell_in, load, store, IsSound}
+use Rattle.alf_ops.specs.Histories.{Byte, origin, bytes_of, is_byte_of, is_empty, is_from, of_pointer, word_of, left_by, cell_in, load, store, IsSoundHistory}
 use Rattle.alf_ops.specs.HistoryLaws.{IsCellOf, IsOfSeveral, GivesWord}
 use Rattle.alf_ops.specs.SpanLaws.{each_passes, none_passes, some_pass}
 use Rattle.alf_ops.specs.TableLaws.{in_cell, cell_ends, whole_cell}
@@ -170,7 +170,7 @@ by_reading from offset size value r table cell same (reads_word some many words 
     subst (λ (x : Value). FitsValue size x) w (refl, word_below_size from offset size)
 
 -- a load of a sound history gives a value of the size that is loaded
-pub load_fits : (frames : List FrameShape) (history : List RunEvent) (place value : Value) (size : ℕ) → IsSound history
+pub load_fits : (frames : List FrameShape) (history : List RunEvent) (place value : Value) (size : ℕ) → IsSoundHistory history
     → IsCell size
     → load frames history place size ≡ Ok value → FitsValue size value
 load_fits frames history (Int own word) value size sound cell is = cc

@@ -12,7 +12,7 @@
 --   address_of frames history place size   the cell at an address, or its fault, tested in the order kind, dead, bounds
 --   load frames history place size   the value or the fault of a load
 --   store frames history place value the history after a store, or its fault
---   IsSound history                  each store is of a value of its size
+--   IsSoundHistory history                  each store is of a value of its size
 use Rattle.std.specs.Prelude.{ℕ, suc, zero, Bool, true, false, List, [], ◌∷◌, map, Option, Some, None, Result, Ok, Err, ◌+◌, ◌-◌, ◌*◌, ◌/◌, ◌%◌, ◌^◌, ◌==◌, ◌&&◌, nat_le, nat_lt, if◌then◌else◌, slice_get, ⊤}
 use Rattle.std.specs.List.{list_all, list_any}
 use Rattle.alf_ops.specs.declared.history.Value.{Value}
@@ -174,8 +174,8 @@ abbrev pub store : List FrameShape → List RunEvent → Value → Value → Res
 store frames history place value = stored history value (address_of frames history place (size_of value))
 
 -- each store is of a value of its size, a word of which is below 2 to it
-abbrev pub IsSound : List RunEvent → Type 0
-IsSound [] = ⊤
-IsSound (Enter function ∷ history) = IsSound history
-IsSound (Leave function ∷ history) = IsSound history
-IsSound (Store frame offset size value ∷ history) = FitsValue size value × IsSound history
+abbrev pub IsSoundHistory : List RunEvent → Type 0
+IsSoundHistory [] = ⊤
+IsSoundHistory (Enter function ∷ history) = IsSoundHistory history
+IsSoundHistory (Leave function ∷ history) = IsSoundHistory history
+IsSoundHistory (Store frame offset size value ∷ history) = FitsValue size value × IsSoundHistory history

@@ -26,7 +26,7 @@ use Rattle.alf_ops.specs.declared.history.RunEvent.{RunEvent}
 use Rattle.alf_ops.specs.declared.history.RunEvent.TheVariants.{Enter, Leave, Store}
 use Rattle.alf_ops.specs.declared.history.FrameShape.{FrameShape}
 use Rattle.alf_ops.specs.Values.{is_pointer, size_of, FitsValue}
-use Rattle.alf_ops.specs.Histories.{Byte, origin, is_active, is_owner, is_byte_of, is_from, left_by, byte_of, bits_at, load, store, IsSound}
+use Rattle.alf_ops.specs.Histories.{Byte, origin, is_active, is_owner, is_byte_of, is_from, left_by, byte_of, bits_at, load, store, IsSoundHistory}
 use Rattle.alf_ops.specs.WholeCells.{IsCell}
 
 -- the cell lies in the frame of this row, which is active
@@ -198,15 +198,15 @@ IsOneStore = (owner : Option ℕ) (frame : ℕ) (history : List RunEvent) (offse
 -- a store of a value that fits keeps a history sound
 abbrev pub StoreKeepsSound : Type 0
 StoreKeepsSound = (frames : List FrameShape) (history after : List RunEvent) (place value : Value)
-    → IsSound history
+    → IsSoundHistory history
     → FitsValue (size_of value) value
     → store frames history place value ≡ Ok after
-    → IsSound after
+    → IsSoundHistory after
 
 -- a load of a sound history gives a value of the size that is loaded
 abbrev pub LoadFits : Type 0
 LoadFits = (frames : List FrameShape) (history : List RunEvent) (place value : Value) (size : ℕ)
-    → IsSound history
+    → IsSoundHistory history
     → IsCell size
     → load frames history place size ≡ Ok value
     → FitsValue size value

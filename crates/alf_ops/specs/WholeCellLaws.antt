@@ -11,7 +11,7 @@ use Rattle.alf_ops.specs.declared.history.Value.TheVariants.{Int}
 use Rattle.alf_ops.specs.declared.history.RunEvent.{RunEvent}
 use Rattle.alf_ops.specs.declared.history.RunEvent.TheVariants.{Enter, Leave, Store}
 use Rattle.alf_ops.specs.Values.{FitsValue}
-use Rattle.alf_ops.specs.Histories.{Byte, origin, is_owner, is_byte_of, is_from, put, left_by, bytes_of, of_pointer, word_of, IsSound}
+use Rattle.alf_ops.specs.Histories.{Byte, origin, is_owner, is_byte_of, is_from, put, left_by, bytes_of, of_pointer, word_of, IsSoundHistory}
 use Rattle.lists.specs.TestLaws.{by_test}
 use Rattle.alf_ops.specs.SpanLaws.{each_passes, none_passes}
 use Rattle.alf_ops.specs.TableLaws.{in_cell, cell_ends, one_store}
@@ -19,7 +19,7 @@ use Rattle.alf_ops.specs.WordByteLaws.{stored_word}
 use Rattle.alf_ops.specs.WholeCells.{IsCell, OneStore, IsTable, KnowsPlace}
 
 -- each byte of a sound history does
-pub knows : (owner : Option ℕ) (frame : ℕ) (history : List RunEvent) (byte : ℕ) (stored : Byte) → IsSound history
+pub knows : (owner : Option ℕ) (frame : ℕ) (history : List RunEvent) (byte : ℕ) (stored : Byte) → IsSoundHistory history
     → origin owner frame history byte ≡ Some stored → KnowsPlace byte stored
 knows owner frame [] byte stored sound is = cc
 knows owner frame (Enter function ∷ history) byte stored sound is = by_test (is_owner owner function)
@@ -41,7 +41,7 @@ knows owner frame (Store f o s v ∷ history) byte stored sound is = by_test (f 
         (λ outside. older (rw outside at e))
 
 -- the bytes of a sound history are a table
-pub origin_is_table : (owner : Option ℕ) (frame : ℕ) (history : List RunEvent) → IsSound history
+pub origin_is_table : (owner : Option ℕ) (frame : ℕ) (history : List RunEvent) → IsSoundHistory history
     → IsTable (origin owner frame history)
 origin_is_table owner frame history sound offset size is whole = go (origin owner frame history offset) refl (from_cell offset (omega arith) (omega (arith, is.0)))
   where

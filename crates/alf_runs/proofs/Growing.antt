@@ -19,7 +19,7 @@ use Rattle.alf_ops.specs.declared.history.RunEvent.TheVariants.{Enter}
 use Rattle.alf_ops.specs.declared.history.RunEvent.TheVariants as events
 use Rattle.alf_ops.specs.Values.{FitsValue, size_of}
 use Rattle.alf_ops.specs.Histories as histories
-use Rattle.alf_ops.specs.Histories.{is_running, IsSound, store, stored, address_of}
+use Rattle.alf_ops.specs.Histories.{is_running, IsSoundHistory, store, stored, address_of}
 use Rattle.alf_ops.specs.Pointers.{operands}
 use Rattle.alf_ops.specs.PointerLaws.{OutcomeFits}
 use Rattle.alf_ops.specs.HistoryLaws.{LoadFits, StoreKeepsSound}
@@ -45,7 +45,7 @@ pub record Promised : Type 0 where
 -- the new history runs the same functions, and its values fit
 pub record Grown (old new : List RunEvent) : Type 0 where
   pub runs : (f : ℕ) → is_running new f ≡ is_running old f
-  pub sound : IsSound new
+  pub sound : IsSoundHistory new
 
 -- a value that fits fits its own size
 pub own_size : (size : ℕ) (value : Value) → FitsValue size value → FitsValue (size_of value) value
@@ -62,7 +62,7 @@ stored_runs history new value (Ok address) is f =
 stored_runs history new value (Err fault) is f = cc
 
 pub stored_grown : Promised → (frames : List FrameShape) (history new : List RunEvent) (place value : Value)
-    → IsSound history → FitsValue (size_of value) value → store frames history place value ≡ Ok new → Grown history new
+    → IsSoundHistory history → FitsValue (size_of value) value → store frames history place value ≡ Ok new → Grown history new
 stored_grown promised frames history new place value sound fits is = record {
   runs = stored_runs history new value (address_of frames history place (size_of value)) is;
   sound = promised.stores frames history new place value sound fits is;
@@ -71,7 +71,7 @@ stored_grown promised frames history new place value sound fits is = record {
 -- a store of an expression's value grows the history
 after_store_grown : Promised
     → (frames : List FrameShape) (history new : List RunEvent) (place value : Result Value RunFault)
-    → IsSound history → ((v : Value) → value ≡ Ok v → FitsValue (size_of v) v) → after_store frames history place value ≡ Ok new → Grown history new
+    → IsSoundHistory history → ((v : Value) → value ≡ Ok v → FitsValue (size_of v) v) → after_store frames history place value ≡ Ok new → Grown history new
 after_store_grown promised frames history new (Ok at) (Ok v) sound fits is = stored_grown promised frames history new at v sound (fits v refl) is
 after_store_grown promised frames history new (Err fault) value sound fits is = cc
 after_store_grown promised frames history new (Ok at) (Err fault) sound fits is = cc
@@ -80,17 +80,17 @@ after_store_grown promised frames history new (Ok at) (Err fault) sound fits is 
 
 statement_grown : Promised
     → (rows : List FrameRow) (k : ℕ) (frames : List FrameShape) (history new : List RunEvent) (s : NumberedStatement)
-    → IsSound history → KeepsStatement rows k s → after_statement frames s history ≡ Ok new → Grown history new
+    → IsSoundHistory history → KeepsStatement rows k s → after_statement frames s history ≡ Ok new → Grown history new
 statement_grown promised rows k frames history new Null sound keeps is =
-    let e : history ≡ new = cc in record { runs = λ f. sym (ap (λ (h : List RunEvent). is_running h f) e); sound = subst IsSound e sound }
+    let e : history ≡ new = cc in record { runs = λ f. sym (ap (λ (h : List RunEvent). is_running h f) e); sound = subst IsSoundHistory e sound }
 statement_grown promised rows k frames history new (Store to value) sound keeps is =
     after_store_grown promised frames history new (value_of frames history to) (value_of frames history value) sound
     (λ v given. own_size keeps.stored.size v (value_fits promised.outcomes promised.loads rows k frames history sound value keeps.stored.size v keeps.stored.value_has given)) is
 
 pub statements_grown : Promised → (rows : List FrameRow) (k : ℕ) (frames : List FrameShape) (history new : List RunEvent) (ss : List NumberedStatement)
-    → IsSound history → All (KeepsStatement rows k) ss → after_statements frames ss (Ok history) ≡ Ok new → Grown history new
+    → IsSoundHistory history → All (KeepsStatement rows k) ss → after_statements frames ss (Ok history) ≡ Ok new → Grown history new
 statements_grown promised rows k frames history new [] sound keeps is =
-    let e : history ≡ new = cc in record { runs = λ f. sym (ap (λ (h : List RunEvent). is_running h f) e); sound = subst IsSound e sound }
+    let e : history ≡ new = cc in record { runs = λ f. sym (ap (λ (h : List RunEvent). is_running h f) e); sound = subst IsSoundHistory e sound }
 statements_grown promised rows k frames history new (s ∷ ss) sound keeps is =
     go (after_statement frames s history) refl is (λ middle grown. statements_grown promised rows k frames middle new ss grown.sound (All-tail (KeepsStatement rows k) s ss keeps))
   where
@@ -112,7 +112,7 @@ AllFit (value ∷ values) = FitsValue (size_of value) value × AllFit values
 
 -- the values of a call's arguments fit
 pub arguments_fit : Promised → (rows : List FrameRow) (k : ℕ) (frames : List FrameShape) (history : List RunEvent) (args : List ℕ) (es : List NumberedExpression) (values : List Value)
-    → IsSound history → AllZip (ArgumentKeeps rows k) args es → operands (map (value_of frames history) es) ≡ Ok values → AllFit values
+    → IsSoundHistory history → AllZip (ArgumentKeeps rows k) args es → operands (map (value_of frames history) es) ≡ Ok values → AllFit values
 arguments_fit promised rows k frames history [] [] values sound keep are = let e : [] ≡ values = cc in subst AllFit e tt
 arguments_fit promised rows k frames history [] (e ∷ es) values sound keep are = absurd keep
 arguments_fit promised rows k frames history (arg ∷ args) [] values sound keep are = absurd keep
@@ -131,8 +131,8 @@ arguments_run [] values history f = refl
 arguments_run (arg ∷ args) [] history f = refl
 arguments_run (arg ∷ args) (value ∷ values) history f = arguments_run args values (events.Store arg 0 (size_of value) value ∷ history) f
 
-arguments_sound : (args : List ℕ) (values : List Value) (history : List RunEvent) → AllFit values → IsSound history
-    → IsSound (with_arguments args values history)
+arguments_sound : (args : List ℕ) (values : List Value) (history : List RunEvent) → AllFit values → IsSoundHistory history
+    → IsSoundHistory (with_arguments args values history)
 arguments_sound [] values history fit sound = sound
 arguments_sound (arg ∷ args) [] history fit sound = sound
 arguments_sound (arg ∷ args) (value ∷ values) history fit sound = arguments_sound args values (events.Store arg 0 (size_of value) value ∷ history) fit.1 (fit.0, sound)
@@ -146,8 +146,8 @@ inits_run : (inits : List InitRow) (history : List RunEvent) (f : ℕ)
 inits_run [] history f = refl
 inits_run (init ∷ inits) history f = inits_run inits (events.Store init.frame init.offset init.num.size (Int init.num.size init.num.bits) ∷ history) f
 
-inits_sound : (inits : List InitRow) (history : List RunEvent) → All FitsWord inits → IsSound history
-    → IsSound (with_inits inits history)
+inits_sound : (inits : List InitRow) (history : List RunEvent) → All FitsWord inits → IsSoundHistory history
+    → IsSoundHistory (with_inits inits history)
 inits_sound [] history fit sound = sound
 inits_sound (init ∷ inits) history fit sound =
     inits_sound inits (events.Store init.frame init.offset init.num.size (Int init.num.size init.num.bits) ∷ history)
@@ -175,7 +175,7 @@ entered_runs program f values history g =
 -- and the values that it starts with fit
 pub entered_sound : (program : NumberedProgram) → IsKept program
     → (f : ℕ) (values : List Value) (history : List RunEvent)
-    → AllFit values → IsSound history → IsSound (entered program f values history)
+    → AllFit values → IsSoundHistory history → IsSoundHistory (entered program f values history)
 entered_sound program kept f values history fit sound =
     inits_sound (inits_at program f) (with_arguments (args_at program f) values (Enter f ∷ history)) (inits_kept program kept f)
     (arguments_sound (args_at program f) values (Enter f ∷ history) fit sound)
@@ -186,7 +186,7 @@ entered_sound program kept f values history fit sound =
 pub globals_run : (program : NumberedProgram) (f : ℕ) → is_running (with_inits program.inits []) f ≡ false
 globals_run program f = inits_run program.inits [] f
 
-pub globals_sound : (program : NumberedProgram) → IsKept program → IsSound (with_inits program.inits [])
+pub globals_sound : (program : NumberedProgram) → IsKept program → IsSoundHistory (with_inits program.inits [])
 globals_sound program kept = inits_sound program.inits [] (words_kept program.frames None program.inits kept.inits) tt
 
 pub inputs_run : (rows : List InputRow) (words : List ℕ) (history : List RunEvent) (f : ℕ)
@@ -196,7 +196,7 @@ inputs_run (row ∷ rows) [] history f = refl
 inputs_run (row ∷ rows) (word ∷ words) history f = inputs_run rows words (events.Store row.frame row.offset row.size (Int row.size word) ∷ history) f
 
 pub inputs_sound : (rows : List InputRow) (words : List ℕ) (history : List RunEvent) → AreWords rows words
-    → IsSound history → IsSound (with_inputs rows words history)
+    → IsSoundHistory history → IsSoundHistory (with_inputs rows words history)
 inputs_sound [] words history fit sound = sound
 inputs_sound (row ∷ rows) [] history fit sound = sound
 inputs_sound (row ∷ rows) (word ∷ words) history fit sound =

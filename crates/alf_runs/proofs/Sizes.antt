@@ -10,7 +10,7 @@ use Rattle.alf_ops.specs.declared.history.RunEvent.{RunEvent}
 use Rattle.alf_ops.specs.Table.{result_size, size_of_result, operand_sizes, layout_of}
 use Rattle.alf_ops.specs.Layouts.{is_written_so}
 use Rattle.alf_ops.specs.Values.{FitsValue, EachValueFits}
-use Rattle.alf_ops.specs.Histories.{IsSound}
+use Rattle.alf_ops.specs.Histories.{IsSoundHistory}
 use Rattle.alf_ops.specs.WholeCells.{IsCell}
 use Rattle.alf_ops.specs.Pointers.{before, operands, outcome_of_operands}
 use Rattle.alf_ops.specs.PointerLaws.{OutcomeFits}
@@ -57,7 +57,7 @@ cell_size size cell = let least = cell.least in (omega arith, cell.bytes)
 
 -- what a load from an address gives has its size
 load_fits : (loads : LoadFits) (frames : List FrameShape) (history : List RunEvent) (size : ℕ) (place : Result Value RunFault) (value : Value)
-    → IsSound history → IsCellSize size → load_from frames history size place ≡ Ok value → FitsValue size value
+    → IsSoundHistory history → IsCellSize size → load_from frames history size place ≡ Ok value → FitsValue size value
 load_fits loads frames history size (Ok place) value sound cell is = loads frames history place value size sound (cell_size size cell) is
 load_fits loads frames history size (Err fault) value sound cell is = cc
 
@@ -76,7 +76,7 @@ outcome_has outcomes op sizes size operand_results value each result_is is = go 
 
 mutual
   -- the value of an expression has its size
-  pub value_fits : (outcomes : OutcomeFits) (loads : LoadFits) (rows : List FrameRow) (function : ℕ) (frames : List FrameShape) (history : List RunEvent) → IsSound history
+  pub value_fits : (outcomes : OutcomeFits) (loads : LoadFits) (rows : List FrameRow) (function : ℕ) (frames : List FrameShape) (history : List RunEvent) → IsSoundHistory history
       → (e : NumberedExpression) (size : ℕ) (value : Value) → HasSize rows function size e → value_of frames history e ≡ Ok value → FitsValue size value
   value_fits outcomes loads rows function frames history sound (Number num) size value has is =
       let e : Int num.size num.bits ≡ value = cc in subst (λ (v : Value). FitsValue size v) e (has.same, has.fits)
@@ -89,7 +89,7 @@ mutual
       (λ values are. values_fit outcomes loads rows function frames history sound es (operand_sizes op sizes) values has.operands are) has.result_is is
 
   -- and so have those of expressions in a row
-  pub values_fit : (outcomes : OutcomeFits) (loads : LoadFits) (rows : List FrameRow) (function : ℕ) (frames : List FrameShape) (history : List RunEvent) → IsSound history
+  pub values_fit : (outcomes : OutcomeFits) (loads : LoadFits) (rows : List FrameRow) (function : ℕ) (frames : List FrameShape) (history : List RunEvent) → IsSoundHistory history
       → (es : NumberedExpressions) (sizes : List ℕ) (values : List Value) → HaveSizes rows function sizes es → operands (results_of frames history es) ≡ Ok values → EachValueFits sizes values
   values_fit outcomes loads rows function frames history sound Empty [] values has are =
       let e : [] ≡ values = cc in subst (λ (vs : List Value). EachValueFits [] vs) e tt

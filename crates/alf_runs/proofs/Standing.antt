@@ -15,7 +15,7 @@ use Rattle.alf_ops.specs.declared.history.RunFault.{RunFault}
 use Rattle.alf_ops.specs.declared.history.RunEvent.{RunEvent}
 use Rattle.alf_ops.specs.declared.history.RunEvent.TheVariants.{Leave}
 use Rattle.alf_ops.specs.Values.{FitsValue, size_of}
-use Rattle.alf_ops.specs.Histories.{is_running, IsSound, store}
+use Rattle.alf_ops.specs.Histories.{is_running, IsSoundHistory, store}
 use Rattle.alf_ops.specs.Pointers.{operands}
 use Rattle.alf_program.specs.Tree.{NumberedExpression}
 use Rattle.alf_check.specs.declared.rows.FrameRow.{FrameRow}
@@ -41,7 +41,7 @@ pub record Stands (program : NumberedProgram) (path : List ℕ) (place : Option 
   pub calls : IsCallPath program path
   pub there : HasPlace program path place
   pub runs : (f : ℕ) → is_running history f ≡ is_among f (functions_on program path)
-  pub sound : IsSound history
+  pub sound : IsSoundHistory history
 
 -- it holds at a node, and an end is one that some rule gives
 abbrev pub IsSafe : NumberedProgram → Moment → Type 0

@@ -13,7 +13,7 @@ use Rattle.alf_ops.specs.declared.history.RunEvent.{RunEvent}
 use Rattle.alf_ops.specs.declared.history.RunEvent.TheVariants.{Enter}
 use Rattle.alf_ops.specs.declared.history.RunEvent.TheVariants as events
 use Rattle.alf_ops.specs.Values.{size_of, FitsValue}
-use Rattle.alf_ops.specs.Histories.{is_running, is_active, IsSound}
+use Rattle.alf_ops.specs.Histories.{is_running, is_active, IsSoundHistory}
 use Rattle.alf_ops.specs.Pointers.{operands}
 use Rattle.alf_program.specs.Tree.{NumberedExpression}
 use Rattle.alf_check.specs.declared.rows.FrameRow.{FrameRow}
@@ -107,7 +107,7 @@ own_bits size (Ptr frame offset) fits = sym fits.0
 
 -- the values of the arguments of a call have the sizes of the frames of the function's arguments
 pub arguments_have : Promised → (rows : List FrameRow) (caller : ℕ) (frames : List FrameShape) (history : List RunEvent) (args : List ℕ) (es : List NumberedExpression) (values : List Value)
-    → IsSound history → AllZip (ArgumentKeeps rows caller) args es → operands (map (value_of frames history) es) ≡ Ok values → AllZip (FitsFrame rows) args values
+    → IsSoundHistory history → AllZip (ArgumentKeeps rows caller) args es → operands (map (value_of frames history) es) ≡ Ok values → AllZip (FitsFrame rows) args values
 arguments_have promised rows caller frames history [] [] values sound keep are = let e : [] ≡ values = cc in subst (λ (vs : List Value). AllZip (FitsFrame rows) [] vs) e tt
 arguments_have promised rows caller frames history [] (e ∷ es) values sound keep are = absurd keep
 arguments_have promised rows caller frames history (arg ∷ args) [] values sound keep are = absurd keep

@@ -10,7 +10,7 @@
 use Rattle.std.specs.Prelude.{◌≡◌, ◌↔◌, ◌<◌, ◌^◌, ℕ, true, List, [], ◌∷◌, Option, Some, None, Contains, ⊤}
 use Rattle.std.specs.List.{AllZip}
 use Rattle.alf_ops.specs.declared.history.RunEvent.{RunEvent}
-use Rattle.alf_ops.specs.Histories.{is_active, IsSound}
+use Rattle.alf_ops.specs.Histories.{is_active, IsSoundHistory}
 use Rattle.alf_program.specs.Tree.{NumberedExpression}
 use Rattle.alf_check.specs.declared.rows.InputRow.{InputRow}
 use Rattle.alf_check.specs.CheckedPrograms.{NumberedProgram, Call}
@@ -55,7 +55,7 @@ pub record IsPlace (program : NumberedProgram) (node : Node) (history : List Run
   pub calls : IsCallPath program node.path
   pub there : HasPlace program node.path node.block
   pub active : ActiveAlong program node.path history
-  pub sound : IsSound history
+  pub sound : IsSoundHistory history
 
 -- the word is below 2 to the size of the row's cell
 abbrev pub IsWord : InputRow → ℕ → Type 0

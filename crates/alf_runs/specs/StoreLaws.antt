@@ -17,7 +17,7 @@ use Rattle.alf_ops.specs.declared.history.FrameShape.{FrameShape}
 use Rattle.alf_ops.specs.declared.history.RunEvent.{RunEvent}
 use Rattle.alf_ops.specs.declared.history.RunEvent.TheVariants.{Enter, Store}
 use Rattle.alf_ops.specs.Values.{size_of}
-use Rattle.alf_ops.specs.Histories.{is_active, fits_in, store, IsSound}
+use Rattle.alf_ops.specs.Histories.{is_active, fits_in, store, IsSoundHistory}
 use Rattle.alf_ops.specs.Pointers.{operands}
 use Rattle.alf_program.specs.Tree.{NumberedExpression}
 use Rattle.alf_check.specs.declared.rows.FrameRow.{FrameRow}
@@ -67,7 +67,7 @@ EntersByStores = (program : NumberedProgram) (f : ℕ) (function : NumberedFunct
 -- the values of the arguments of a call have the sizes of the frames of the function's arguments
 abbrev pub ArgumentsFit : Type 0
 ArgumentsFit = (rows : List FrameRow) (caller : ℕ) (frames : List FrameShape) (history : List RunEvent) (args : List ℕ) (es : List NumberedExpression) (values : List Value)
-    → IsSound history
+    → IsSoundHistory history
     → AllZip (ArgumentKeeps rows caller) args es
     → operands (map (value_of frames history) es) ≡ Ok values
     → AllZip (FitsFrame rows) args values

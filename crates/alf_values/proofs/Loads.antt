@@ -13,7 +13,7 @@ use Rattle.alf_ops.specs.declared.history.RunFault.{RunFault}
 use Rattle.alf_ops.specs.declared.history.RunEvent.{RunEvent}
 use Rattle.alf_ops.specs.declared.history.RunEvent.TheVariants.{Enter, Leave, Store}
 use Rattle.alf_ops.specs.Values.{FitsValue, is_pointer, bits_of}
-use Rattle.alf_ops.specs.Histories.{Byte, origin, is_owner, is_byte_of, put, left_by, offsets, bytes_of, is_empty, is_from, byte_of, bits_at, word_of, first_value, cell_in, IsSound}
+use Rattle.alf_ops.specs.Histories.{Byte, origin, is_owner, is_byte_of, put, left_by, offsets, bytes_of, is_empty, is_from, byte_of, bits_at, word_of, first_value, cell_in, IsSoundHistory}
 use Rattle.alf_ops.specs.Histories as histories
 use Rattle.alf_ops.specs.SpanLaws.{offsets_step, same_bytes, all_pass, each_fails}
 use Rattle.alf_ops.specs.TableLaws.{in_cell, cell_ends}
@@ -56,7 +56,7 @@ low_end owner frame (Store f o s v ∷ history) byte stored is = by_test (f == f
         (λ outside. older (rw outside at e))
 
 -- each byte of a sound history comes from such a store
-pub left : (owner : Option ℕ) (frame : ℕ) (history : List RunEvent) (byte : ℕ) (stored : Byte) → IsSound history
+pub left : (owner : Option ℕ) (frame : ℕ) (history : List RunEvent) (byte : ℕ) (stored : Byte) → IsSoundHistory history
     → origin owner frame history byte ≡ Some stored → IsLeft byte stored
 left owner frame history byte stored sound is =
     let k = knows owner frame history byte stored sound is in
@@ -199,7 +199,7 @@ module _ (from : ℕ → Option Byte) (offset size : ℕ) (is : IsCell size) (ea
       rw (full, both) (first ∙ ap pointer_in (held offset (omega arith) (omega (arith, is.0))))
 
 -- where each byte holds what the history left there, a cell gives what it gives by its stores
-pub held_as_stored : (owner : Option ℕ) (frame : ℕ) (history : List RunEvent) (held : ℕ → Option Content) (offset size : ℕ) → IsSound history → IsCell size
+pub held_as_stored : (owner : Option ℕ) (frame : ℕ) (history : List RunEvent) (held : ℕ → Option Content) (offset size : ℕ) → IsSoundHistory history → IsCell size
     → ((byte : ℕ) → offset ≤ byte → byte < offset + size / 8 → held byte ≡ content_of (origin owner frame history byte))
     → cell_held held offset size ≡ cell_in (origin owner frame history) offset size
 held_as_stored owner frame history held offset size sound is agree =

@@ -14,7 +14,7 @@ use Rattle.alf_ops.specs.declared.history.RunEvent.{RunEvent}
 use Rattle.alf_ops.specs.declared.history.RunEvent.TheVariants.{Enter, Leave, Store}
 use Rattle.alf_ops.specs.declared.history.FrameShape.{FrameShape}
 use Rattle.alf_ops.specs.Values.{FitsValue}
-use Rattle.alf_ops.specs.Histories.{origin, is_active, is_byte_of, IsSound}
+use Rattle.alf_ops.specs.Histories.{origin, is_active, is_byte_of, IsSoundHistory}
 use Rattle.alf_ops.specs.TableLaws.{cell_ends, origin_elsewhere}
 use Rattle.alf_values.specs.declared.slots.Slot.{Slot}
 use Rattle.alf_values.specs.declared.cells.Frame.{Frame}
@@ -41,7 +41,7 @@ Holds functions frame number history =
 
 -- and those of each frame
 pub record Stands (frames : List Frame) (functions : List Activity) (history : List RunEvent) : Type 0 where
-  pub sound : IsSound history
+  pub sound : IsSoundHistory history
   pub each : (number : ℕ) (frame : Frame) → slice_get frames number ≡ Some frame → Holds functions frame number history
 
 -- ---- what is seen

@@ -11,7 +11,7 @@ use Rattle.alf_ops.specs.declared.history.Value.{Value}
 use Rattle.alf_ops.specs.declared.history.Value.TheVariants.{Ptr}
 use Rattle.alf_ops.specs.declared.history.RunEvent.{RunEvent}
 use Rattle.alf_ops.specs.Values.{size_of, FitsValue}
-use Rattle.alf_ops.specs.Histories.{origin, is_active, load, store, IsSound}
+use Rattle.alf_ops.specs.Histories.{origin, is_active, load, store, IsSoundHistory}
 use Rattle.alf_check.specs.Kept.{IsCellSize}
 use Rattle.alf_values.specs.declared.fault.ValueFault.{ValueFault}
 use Rattle.alf_values.specs.declared.fault.ValueFault.TheVariants.{Run, Memory}
@@ -27,7 +27,7 @@ pub record FrameStandsFor (frame : HeldFrame) (live : Bool) (number : ℕ) (hist
 
 -- the history is sound, and each frame stands for it
 pub record StandsFor (memory : RunMemory) (history : List RunEvent) : Type 0 where
-  pub sound : IsSound history
+  pub sound : IsSoundHistory history
   pub each : (number : ℕ) (frame : HeldFrame) → slice_get memory.frames number ≡ Some frame
       → FrameStandsFor frame (is_live memory.running frame.shape.owner) number history
 

@@ -17,11 +17,11 @@ use Rattle.program_machines.specs.NodeCosts.{HasCosts}
 use Rattle.line_cache.specs.declared.shape.Shape.{Shape}
 use Rattle.cached_runs.specs.declared.answer.Cached.{Cached}
 use Rattle.cached_runs.specs.Answers.{CacheAnswer, Told, Unbounded, answer_of, IfTold}
-use Rattle.cached_runs.specs.CachedRuns.{IsFound, IsSound as IsSoundSystem}
+use Rattle.cached_runs.specs.CachedRuns.{IsFound, AreSoundLines as IsSoundSystem}
 use Rattle.cache_analysis.specs.CodeAccesses.{HasCodeNotes}
-use Rattle.cache_analysis.specs.Sound.{IsSound}
+use Rattle.cache_analysis.specs.Sound.{IsSoundCache}
 use Rattle.cache_analysis.specs.SoundLaws.{SoundForSystemIsSound}
-use Rattle.cache_analysis.specs.Analyses.{IsAnalysis}
+use Rattle.cache_analysis.specs.Analyses.{IsCacheAnalysis}
 
 module _ (checked : CheckedParts) (graph : GraphParts) (rows : List InputRow) (shape : Shape) (o : Outlined) (policy : Policy) (turns : ℕ)
     (keeps : IsKept (seen checked)) (is : IsGraph (seen checked) graph) (noted : HasCodeNotes (seen checked) graph shape o) where
@@ -31,7 +31,7 @@ module _ (checked : CheckedParts) (graph : GraphParts) (rows : List InputRow) (s
   -- what was found is an analysis of the program
   pub analysed : {E : Type 0} → IsOutlineOf (plan_of graph) (shape_of o) → (result : Result Cached E)
       → IfOk result (λ cached. IsFound stepped_by parts_order parts o policy turns (answer_of cached))
-      → IfOk result (λ cached. (costs : CostTable) → HasCosts (seen checked) graph costs o → IsAnalysis (seen checked) graph rows shape costs policy turns (answer_of cached))
+      → IfOk result (λ cached. (costs : CostTable) → HasCosts (seen checked) graph costs o → IsCacheAnalysis (seen checked) graph rows shape costs policy turns (answer_of cached))
   analysed of (Ok cached) found = λ costs priced. record {
     checked = checked;
     keeps = keeps;
@@ -47,13 +47,13 @@ module _ (checked : CheckedParts) (graph : GraphParts) (rows : List InputRow) (s
 
   lines_sound : SoundForSystemIsSound → (answer : CacheAnswer)
       → IfTold answer (IsSoundSystem (stepped_by parts).system o)
-      → IfTold answer (λ lines. (costs : CostTable) → HasCosts (seen checked) graph costs o → IsSound (seen checked) graph rows shape costs lines)
+      → IfTold answer (λ lines. (costs : CostTable) → HasCosts (seen checked) graph costs o → IsSoundCache (seen checked) graph rows shape costs lines)
   lines_sound law (Told lines) sound = λ costs priced. law parts shape o costs lines keeps is noted priced sound
   lines_sound law (Unbounded scope) sound = tt
 
   -- lines that are sound for the system are sound for the program
   pub told_sound : {E : Type 0} → SoundForSystemIsSound → (result : Result Cached E)
       → IfOk result (λ cached. IfTold (answer_of cached) (IsSoundSystem (stepped_by parts).system o))
-      → IfOk result (λ cached. IfTold (answer_of cached) (λ lines. (costs : CostTable) → HasCosts (seen checked) graph costs o → IsSound (seen checked) graph rows shape costs lines))
+      → IfOk result (λ cached. IfTold (answer_of cached) (λ lines. (costs : CostTable) → HasCosts (seen checked) graph costs o → IsSoundCache (seen checked) graph rows shape costs lines))
   told_sound law (Ok cached) sound = lines_sound law (answer_of cached) sound
   told_sound law (Err error) sound = tt

@@ -25,9 +25,9 @@ use Rattle.line_cache.specs.Traced.{accesses_along}
 use Rattle.line_cache.specs.PartLineLaws.{lines_are}
 use Rattle.code_layout.specs.Layouts.{parts_of}
 use Rattle.cached_runs.specs.Answers.{CacheLines}
-use Rattle.cached_runs.specs.CachedRuns.{IsBoundFor, IsSound as IsSoundSystem}
+use Rattle.cached_runs.specs.CachedRuns.{IsBoundFor, AreSoundLines as IsSoundSystem}
 use Rattle.cache_analysis.specs.CodeAccesses.{code_lines, code_accesses, HasCodeNotes}
-use Rattle.cache_analysis.specs.Sound.{IsRightFor, IsSound}
+use Rattle.cache_analysis.specs.Sound.{IsRightFor, IsSoundCache}
 use Rattle.cache_analysis.specs.SoundLaws.{SoundForSystemIsSound}
 
 module _ (program : NumberedProgram) (graph : GraphParts) (shape : Shape) (o : Outlined) (noted : HasCodeNotes program graph shape o) where
@@ -73,7 +73,7 @@ module _ (program : NumberedProgram) (graph : GraphParts) (shape : Shape) (o : O
 -- why the lines are sound
 pub sound_of : Promises → (program : NumberedProgram) (graph : GraphParts) (rows : List InputRow) (shape : Shape) (o : Outlined) (costs : CostTable) (lines : CacheLines)
     → IsKept program → IsGraph program graph → HasCodeNotes program graph shape o → HasCosts program graph costs o → IsSoundSystem (run_system program graph rows) o lines
-    → IsSound program graph rows shape costs lines
+    → IsSoundCache program graph rows shape costs lines
 sound_of promises program graph rows shape o costs lines keeps is noted priced sound start from =
     let run = sound.ends (points program graph start) (program_run promises program graph keeps is rows start from) in
     let so = passes_runs program graph rows run.passes in

@@ -1,5 +1,5 @@
 -- What an analysis of a program with an instruction cache finds.
---   IsAnalysis program graph rows shape costs policy turns answer   an exploration of the program with the rule of `miss_recording`, by the
+--   IsCacheAnalysis program graph rows shape costs policy turns answer   an exploration of the program with the rule of `miss_recording`, by the
 --       policy in so many turns, finds this answer
 --   HasOneAnalysis        so finds each other one
 -- The code has a program in parts, which lie in memory as they do: here any that are seen as the program will do.
@@ -23,7 +23,7 @@ use Rattle.cached_runs.specs.CachedRuns.{IsFound}
 use Rattle.cache_analysis.specs.CodeAccesses.{HasCodeNotes}
 
 -- an exploration of the program, by the policy in so many turns, finds this answer
-pub record IsAnalysis (program : NumberedProgram) (graph : GraphParts) (rows : List InputRow) (shape : Shape)
+pub record IsCacheAnalysis (program : NumberedProgram) (graph : GraphParts) (rows : List InputRow) (shape : Shape)
     (costs : CostTable) (policy : Policy) (turns : ℕ) (answer : CacheAnswer) : Type 0 where
   -- the parts of the program as they are checked, and the outline of its graph with costs and the lines of its nodes
   pub checked : CheckedParts
@@ -39,4 +39,4 @@ pub record IsAnalysis (program : NumberedProgram) (graph : GraphParts) (rows : L
 -- so finds each other one
 abbrev pub HasOneAnalysis : Type 0
 HasOneAnalysis = (program : NumberedProgram) (graph : GraphParts) (rows : List InputRow) (shape : Shape) (costs : CostTable) (policy : Policy) (turns : ℕ) (a b : CacheAnswer)
-    → IsAnalysis program graph rows shape costs policy turns a → IsAnalysis program graph rows shape costs policy turns b → a ≡ b
+    → IsCacheAnalysis program graph rows shape costs policy turns a → IsCacheAnalysis program graph rows shape costs policy turns b → a ≡ b

@@ -1,8 +1,8 @@
 -- When a bound and a list of hits are right for a program, in the words of its runs.
 --   IsRightFor program graph shape costs lines trace run c   the run costs with the penalties of its misses no more than the bound, and each
 --       access at a node that is told hits, where the cache has c at first
---   IsSoundFor program graph shape costs lines start   the run from the start ends, and so it is of the run for all contents that the cache may have
---   IsSound program graph rows shape costs lines       so it is for each start with inputs inside the ranges of the rows
+--   IsSoundCacheFor program graph shape costs lines start   the run from the start ends, and so it is of the run for all contents that the cache may have
+--   IsSoundCache program graph rows shape costs lines       so it is for each start with inputs inside the ranges of the rows
 use Rattle.std.specs.Prelude.{◌≡◌, ◌≤◌, ◌+◌, ◌*◌, true, ℕ, List, Contains}
 use Rattle.alf_check.specs.CheckedPrograms.{NumberedProgram}
 use Rattle.alf_check.specs.declared.rows.InputRow.{InputRow}
@@ -28,7 +28,7 @@ pub record IsRightFor (program : NumberedProgram) (graph : GraphParts) (shape : 
       → a.hits ≡ true
 
 -- the run from the start ends, and so it is of the run for all contents that the cache may have at first
-pub record IsSoundFor (program : NumberedProgram) (graph : GraphParts) (shape : Shape) (costs : CostTable)
+pub record IsSoundCacheFor (program : NumberedProgram) (graph : GraphParts) (shape : Shape) (costs : CostTable)
     (lines : CacheLines) (start : Moment) : Type 0 where
   pub trace : List ℕ
   pub outcome : Outcome
@@ -37,5 +37,5 @@ pub record IsSoundFor (program : NumberedProgram) (graph : GraphParts) (shape : 
       → IsRightFor program graph shape costs lines trace runs.run c
 
 -- so it is for each start with inputs inside the ranges of the rows
-abbrev pub IsSound : NumberedProgram → GraphParts → List InputRow → Shape → CostTable → CacheLines → Type 0
-IsSound program graph rows shape costs lines = (start : Moment) → IsStart program rows start → IsSoundFor program graph shape costs lines start
+abbrev pub IsSoundCache : NumberedProgram → GraphParts → List InputRow → Shape → CostTable → CacheLines → Type 0
+IsSoundCache program graph rows shape costs lines = (start : Moment) → IsStart program rows start → IsSoundCacheFor program graph shape costs lines start

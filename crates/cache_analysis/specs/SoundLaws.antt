@@ -9,12 +9,12 @@ use Rattle.abstract_step.specs.Steppers.{StepperParts, stepped_by}
 use Rattle.program_machines.specs.NodeCosts.{HasCosts}
 use Rattle.line_cache.specs.declared.shape.Shape.{Shape}
 use Rattle.cached_runs.specs.Answers.{CacheLines}
-use Rattle.cached_runs.specs.CachedRuns.{IsSound as IsSoundSystem}
+use Rattle.cached_runs.specs.CachedRuns.{AreSoundLines as IsSoundSystem}
 use Rattle.cache_analysis.specs.CodeAccesses.{HasCodeNotes}
-use Rattle.cache_analysis.specs.Sound.{IsSound}
+use Rattle.cache_analysis.specs.Sound.{IsSoundCache}
 
 -- the law
 abbrev pub SoundForSystemIsSound : Type 0
 SoundForSystemIsSound = (parts : StepperParts) (shape : Shape) (o : Outlined) (costs : CostTable) (lines : CacheLines) → IsKept (seen parts.checked) → IsGraph (seen parts.checked) parts.graph
     → HasCodeNotes (seen parts.checked) parts.graph shape o → HasCosts (seen parts.checked) parts.graph costs o → IsSoundSystem (stepped_by parts).system o lines
-    → IsSound (seen parts.checked) parts.graph parts.rows shape costs lines
+    → IsSoundCache (seen parts.checked) parts.graph parts.rows shape costs lines

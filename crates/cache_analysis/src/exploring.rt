@@ -16,10 +16,10 @@ ghost use Rattle.program_analysis.specs.Bounds.{most_turns};
 ghost use Rattle.line_cache.specs.Lines.{IsShape};
 ghost use Rattle.code_layout.specs.Layouts.{all_statements, most_statements};
 ghost use Rattle.cached_runs.specs.Answers.{answer_of, IfTold};
-ghost use Rattle.cached_runs.specs.CachedRuns.{IsFound, IsSound as IsSoundSystem};
+ghost use Rattle.cached_runs.specs.CachedRuns.{IsFound, AreSoundLines as IsSoundSystem};
 ghost use Rattle.cache_analysis.specs.CodeAccesses.{HasCodeNotes};
-ghost use Rattle.cache_analysis.specs.Analyses.{IsAnalysis};
-ghost use Rattle.cache_analysis.specs.Sound.{IsSound};
+ghost use Rattle.cache_analysis.specs.Analyses.{IsCacheAnalysis};
+ghost use Rattle.cache_analysis.specs.Sound.{IsSoundCache};
 
 use crate::laws::sound_lines_are_sound_for_the_program;
 use abstract_step::AlfStepper;
@@ -56,14 +56,14 @@ pub fn analyse(
 
     // What the policy finds over the pools of the program's machine with the rule of the recorder.
     ensures found { IfOk result (λ cached. (costs : CostTable) → HasCosts (seen checked.now) graph.now costs outline.now
-        → IsAnalysis (seen checked.now) graph.now rows.now shape costs policy turns (answer_of cached)) }
+        → IsCacheAnalysis (seen checked.now) graph.now rows.now shape costs policy turns (answer_of cached)) }
 
     // Whatever the cache had at first, each run of the program ends, costs with the penalties of its misses no more
     // than the bound, and hits at each node that is told.
     ensures sound { IfOk result
         (λ cached. IfTold (answer_of cached)
         (λ lines. (costs : CostTable) → HasCosts (seen checked.now) graph.now costs outline.now
-        → IsSound (seen checked.now) graph.now rows.now shape costs lines)) }
+        → IsSoundCache (seen checked.now) graph.now rows.now shape costs lines)) }
 {
     checked.keeps();
     sound_lines_are_sound_for_the_program();

@@ -27,7 +27,7 @@ use Rattle.line_cache.specs.LruLaws.{accesses_turned}
 use Rattle.line_cache.specs.Traced.{accesses_of, accesses_along, cost_of}
 use Rattle.line_cache.specs.MissRules.{Counted, Collected, may_miss, IsBounded, miss_order, miss_recording}
 use Rattle.cached_runs.specs.Answers.{CacheLines}
-use Rattle.cached_runs.specs.CachedRuns.{has_line, hits_at, hits_below, told_lines, IsBoundFor, IsSound, IsClosed, IsLeft}
+use Rattle.cached_runs.specs.CachedRuns.{has_line, hits_at, hits_below, told_lines, IsBoundFor, AreSoundLines, IsClosed, IsLeft}
 
 -- a sum in the other order
 sum_turned : (f : ℕ → ℕ) (xs : List ℕ) → sum_by f (reverse xs) ≡ sum_by f xs
@@ -87,7 +87,7 @@ bound_for o b stepped past trace c turned bounded = record {
 -- where no place is left, the lines are sound
 pub sound_lines : {S T C : Type 0} (machine : S → Machine T C) (w : Pooled S T Counted Collected)
     → EachIsHandled machine miss_recording w → w.spots ≡ []
-    → IsSound (machine w.stepper).system w.outline (told_lines w)
+    → AreSoundLines (machine w.stepper).system w.outline (told_lines w)
 sound_lines machine w handled empty =
     let each = each_is_summed machine miss_recording w handled empty in
     record {
@@ -99,10 +99,10 @@ sound_lines machine w handled empty =
 
 -- so are lines that tell it along the outline that it explores
 pub sound_told : {S T C : Type 0} (machine : S → Machine T C) (w : Pooled S T Counted Collected) (o : Outlined) (hits : List ℕ) (bound : ℕ) → EachIsHandled machine miss_recording w → w.outline ≡ o
-    → hits ≡ hits_below o w.book w.stepped (length o.nodes) → bound ≡ w.book.worst → w.spots ≡ [] → IsSound (machine w.stepper).system o (record { hits = hits; bound = bound })
+    → hits ≡ hits_below o w.book w.stepped (length o.nodes) → bound ≡ w.book.worst → w.spots ≡ [] → AreSoundLines (machine w.stepper).system o (record { hits = hits; bound = bound })
 sound_told machine w o hits bound handled along hits_are bound_is empty =
-    subst (λ (lines : CacheLines). IsSound (machine w.stepper).system o lines) (sym (ap (λ (xs : List ℕ). record { hits = xs; bound = bound }) hits_are ∙ ap (λ (n : ℕ). record { hits = hits_below o w.book w.stepped (length o.nodes); bound = n }) bound_is))
-    (subst (λ (p : Outlined). IsSound (machine w.stepper).system p (record { hits = hits_below p w.book w.stepped (length p.nodes); bound = w.book.worst })) along (sound_lines machine w handled empty))
+    subst (λ (lines : CacheLines). AreSoundLines (machine w.stepper).system o lines) (sym (ap (λ (xs : List ℕ). record { hits = xs; bound = bound }) hits_are ∙ ap (λ (n : ℕ). record { hits = hits_below o w.book w.stepped (length o.nodes); bound = n }) bound_is))
+    (subst (λ (p : Outlined). AreSoundLines (machine w.stepper).system p (record { hits = hits_below p w.book w.stepped (length p.nodes); bound = w.book.worst })) along (sound_lines machine w handled empty))
 
 -- ---- what the policy finds
 

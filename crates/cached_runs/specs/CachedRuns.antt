@@ -4,8 +4,8 @@
 --   hits_below           so of the nodes below k, in order
 --   told_lines w         what is told of a pool
 --   IsBoundFor o lines trace c   a run costs no more than the bound, and each access at a node told hits, where the cache has c at first
---   IsSoundFor           so it is for each contents
---   IsSound system o lines   each run ends, and so it is for each run that ends
+--   AreSoundLinesFor           so it is for each contents
+--   AreSoundLines system o lines   each run ends, and so it is for each run that ends
 --   IsClosed, IsLeft     the policy's run leaves no place, and the lines tell what was collected; or the turns are used up in a scope
 --   IsFound machine states stepper o policy turns answer   the one or the other
 use Rattle.std.specs.Prelude.{◌≡◌, ◌≤◌, ◌+◌, ◌*◌, ℕ, zero, suc, Bool, true, false, not, ◌&&◌, nat_lt, if◌then◌else◌, List, [], ◌∷◌, ◌++◌, length, Option, Contains, slice_index_or}
@@ -50,14 +50,14 @@ pub record IsBoundFor (o : Outlined) (lines : CacheLines) (trace : List ℕ) (c 
   pub bound : run_cost (costs_of o) trace + penalty_of o * missed_of (accesses_along o c trace) ≤ lines.bound
   pub hits : (a : Access) → Contains (accesses_along o c trace) a → Contains lines.hits a.node → a.hits ≡ true
 
-abbrev pub IsSoundFor : Outlined → CacheLines → List ℕ → Type 0
-IsSoundFor o lines trace = (c : Contents) → IsContents (sets_of o) (ways_of o) c → IsBoundFor o lines trace c
+abbrev pub AreSoundLinesFor : Outlined → CacheLines → List ℕ → Type 0
+AreSoundLinesFor o lines trace = (c : Contents) → IsContents (sets_of o) (ways_of o) c → IsBoundFor o lines trace c
 
 -- each run ends, and so it is for each run that ends
-pub record IsSound {C : Type 0} (system : System C) (o : Outlined) (lines : CacheLines) : Type 0 where
+pub record AreSoundLines {C : Type 0} (system : System C) (o : Outlined) (lines : CacheLines) : Type 0 where
   pub ends : (run : ℕ → Option (ℕ × C)) → IsRun system run → RunEnds system run
   pub right : (c : C) (trace : List ℕ) (fault : Option RunFault) → system.starts c → Passes system 0 c trace fault
-      → IsSoundFor o lines trace
+      → AreSoundLinesFor o lines trace
 
 -- ---- what the policy finds
 

@@ -8,7 +8,7 @@ ghost use Rattle.abstract_exec.specs.Explorations.{IsPool};
 ghost use Rattle.line_cache.specs.Lines.{IsNoted};
 ghost use Rattle.line_cache.specs.MissRules.{may_miss, miss_recording};
 ghost use Rattle.cached_runs.specs.Answers.{lines_of, answer_of, IfTold};
-ghost use Rattle.cached_runs.specs.CachedRuns.{has_line, hits_below, told_lines, IsSound, IsFound};
+ghost use Rattle.cached_runs.specs.CachedRuns.{has_line, hits_below, told_lines, AreSoundLines, IsFound};
 
 use crate::{Cached, CachedLines};
 use abstract_exec::{Explored, Pool};
@@ -83,7 +83,7 @@ fn told<S: Stepper>(
     requires noted { IsNoted outline.now }
     ensures told { IfOk result (λ lines. lines_of lines ≡ told_lines pool.now) }
     ensures sound { pool.now.spots ≡ []
-        → IfOk result (λ lines. IsSound (S.machine pool.now.stepper).system outline.now (lines_of lines)) }
+        → IfOk result (λ lines. AreSoundLines (S.machine pool.now.stepper).system outline.now (lines_of lines)) }
 {
     Ok(CachedLines {
         hits: hits(alloc, outline, pool)?,
@@ -111,7 +111,7 @@ pub fn cached<S: Stepper>(
     // Whatever the cache has at first, each run of the stepper's system ends, costs with its misses no more than the
     // bound, and hits at each node that is told.
     ensures sound { IfOk result
-        (λ cached. IfTold (answer_of cached) (IsSound (S.machine stepper.now).system outline.now)) }
+        (λ cached. IfTold (answer_of cached) (AreSoundLines (S.machine stepper.now).system outline.now)) }
 {
     let mut pool: Pool<S, Misses> = Pool::start(alloc, stepper, outline)?;
     match pool.explore(alloc, policy, turns)? {

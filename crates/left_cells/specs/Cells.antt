@@ -12,7 +12,7 @@ use Rattle.alf_ops.specs.declared.history.Value.{Value}
 use Rattle.alf_ops.specs.declared.history.Value.TheVariants.{Int, Ptr}
 use Rattle.alf_ops.specs.declared.history.RunEvent.{RunEvent}
 use Rattle.alf_ops.specs.declared.history.FrameShape.{FrameShape}
-use Rattle.alf_ops.specs.Histories.{load, IsSound}
+use Rattle.alf_ops.specs.Histories.{load, IsSoundHistory}
 use Rattle.alf_ops.specs.TwosComplement.{word}
 use Rattle.alf_check.specs.declared.rows.InputRow.{InputRow}
 use Rattle.alf_runs.specs.Starts.{IsWithin}
@@ -37,7 +37,7 @@ pub record HoldsBetween (rows : List FrameShape) (history : List RunEvent) (fram
 
 -- so it does in each history that the memory stands for
 abbrev pub EachHoldsBetween : List FrameShape → Mem abstract_sets → ℕ → ℕ → ℕ → ℤ → ℤ → Type 0
-EachHoldsBetween rows m frame offset size low high = (history : List RunEvent) → IsSound history → MemCovers abstract_sets rows m history → HoldsBetween rows history frame offset size low high
+EachHoldsBetween rows m frame offset size low high = (history : List RunEvent) → IsSoundHistory history → MemCovers abstract_sets rows m history → HoldsBetween rows history frame offset size low high
 
 -- the ends of the range have at most 65 bits, as those of each input row of a program have
 pub record IsSmallRange (row : InputRow) : Type 0 where
@@ -66,4 +66,4 @@ pub record HoldsInside (rows : List FrameShape) (history : List RunEvent) (row :
   pub holds : load rows history (Ptr row.frame row.offset) row.size ≡ Ok (Int row.size (word row.size number))
 
 abbrev pub EachHoldsInside : List FrameShape → Mem abstract_sets → InputRow → Type 0
-EachHoldsInside rows m row = (history : List RunEvent) → IsSound history → MemCovers abstract_sets rows m history → HoldsInside rows history row
+EachHoldsInside rows m row = (history : List RunEvent) → IsSoundHistory history → MemCovers abstract_sets rows m history → HoldsInside rows history row

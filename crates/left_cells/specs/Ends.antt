@@ -6,7 +6,7 @@
 use Rattle.std.specs.Prelude.{◌≡◌, ℕ, List, All, Option, Ok, IsSomeAnd}
 use Rattle.alf_ops.specs.declared.history.RunEvent.{RunEvent}
 use Rattle.alf_ops.specs.declared.history.FrameShape.{FrameShape}
-use Rattle.alf_ops.specs.Histories.{IsSound}
+use Rattle.alf_ops.specs.Histories.{IsSoundHistory}
 use Rattle.alf_check.specs.CheckedPrograms.{NumberedStatement, NumberedProgram, CheckedParts}
 use Rattle.alf_check.specs.Kept.{KeepsStatement}
 use Rattle.alf_runs.specs.Statements.{after_statements}
@@ -23,13 +23,13 @@ pub record AreOfOne (program : NumberedProgram) (statements : List NumberedState
 pub record IsAfter (checked : CheckedParts) (statements : List NumberedStatement) (parts : MemoryParts)
     (later : List RunEvent) : Type 0 where
   pub before : List RunEvent
-  pub sound : IsSound before
+  pub sound : IsSoundHistory before
   pub covers : MemCovers abstract_sets (rows_of checked) (memory_in parts) before
   pub does : after_statements (rows_of checked) statements (Ok before) ≡ Ok later
 
 -- there is a memory, and it stands for the history
 abbrev pub StandsIn : List FrameShape → Option MemoryParts → List RunEvent → Type 0
-StandsIn rows left history = IsSomeAnd left (λ parts. IsSound history × MemCovers abstract_sets rows (memory_in parts) history)
+StandsIn rows left history = IsSomeAnd left (λ parts. IsSoundHistory history × MemCovers abstract_sets rows (memory_in parts) history)
 
 -- a memory of the same program, in which the same functions run
 pub record IsLike (old new : MemoryParts) : Type 0 where

@@ -2,7 +2,7 @@
 use Rattle.std.proofs.Common.{◌≡◌, ℕ, List, Option, Some, None, Ok, Err, refl, arith}
 use Rattle.alf_ops.specs.declared.history.Value.{Value}
 use Rattle.alf_ops.specs.declared.history.RunEvent.{RunEvent}
-use Rattle.alf_ops.specs.Histories.{load, IsSound}
+use Rattle.alf_ops.specs.Histories.{load, IsSoundHistory}
 use Rattle.alf_ops.specs.HistoryLaws.{LoadFits}
 use Rattle.alf_ops.specs.WholeCells.{IsCell}
 use Rattle.c_unit.specs.declared.types.Integer.{Integer}
@@ -39,7 +39,7 @@ type_cell UnsignedInt = (omega arith, refl)
 word_cell : IsCell 32
 word_cell = (omega arith, refl)
 
-module _ (sizes : Sizes) (program : Program) (scopes : List Scope) (h : List RunEvent) (sound : IsSound h) where
+module _ (sizes : Sizes) (program : Program) (scopes : List Scope) (h : List RunEvent) (sound : IsSoundHistory h) where
   abbrev Fit : Valued → Type 0
   Fit r = FitsResult 32 r
 

@@ -110,7 +110,7 @@ next_whole size (Ok v) vs fits rest = before_rest (operands vs) rest
     before_rest (Ok ws) rest = All-cons IsWhole v ws (whole size v fits) rest
     before_rest (Err fault) rest = tt
 
-module _ (sizes : Sizes) (cuts : CutsFit) (program : Program) (scopes : List Scope) (h : List RunEvent) (sound : Rattle.alf_ops.specs.Histories.IsSound h) where
+module _ (sizes : Sizes) (cuts : CutsFit) (program : Program) (scopes : List Scope) (h : List RunEvent) (sound : Rattle.alf_ops.specs.Histories.IsSoundHistory h) where
   each_whole : (es : List Expression) (ps : List Parameter)
       → AreWhole (operands (statements.arguments program scopes h es ps))
   each_whole [] ps = All-nil IsWhole

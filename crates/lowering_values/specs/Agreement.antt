@@ -22,7 +22,7 @@ use Rattle.alf_ops.specs.declared.history.Value.{Value}
 use Rattle.alf_ops.specs.declared.history.Value.TheVariants as values
 use Rattle.alf_ops.specs.declared.history.RunFault.{RunFault}
 use Rattle.alf_ops.specs.declared.history.RunEvent.{RunEvent}
-use Rattle.alf_ops.specs.Histories.{is_running, store, IsSound}
+use Rattle.alf_ops.specs.Histories.{is_running, store, IsSoundHistory}
 use Rattle.alf_ops.specs.Pointers.{operands}
 use Rattle.alf_ops.specs.Values.{size_of, FitsValue}
 use Rattle.alf_program.specs.Tree.{NamedExpression, Address, with_frames}
@@ -153,7 +153,7 @@ OperatorsAgree = (unit : UnitTree) (frame : List ℕ → ℕ) (m : List RunEvent
 
 -- a value has 32 bits
 abbrev pub ValuesFit : Type 0
-ValuesFit = (unit : UnitTree) (scopes : List Scope) (h : List RunEvent) (e : Expression) → IsSound h
+ValuesFit = (unit : UnitTree) (scopes : List Scope) (h : List RunEvent) (e : Expression) → IsSoundHistory h
     → FitsValued 32 (meaning.value_of (program_of unit) scopes h e)
 
 abbrev pub OperatorsFit : Type 0
@@ -220,7 +220,7 @@ ArgumentsAgree = (unit : UnitTree) (f : ℕ) (frame : List ℕ → ℕ) (scopes 
 abbrev pub ArgumentsFit : Type 0
 ArgumentsFit = (unit : UnitTree) (scopes : List Scope) (h : List RunEvent) (es : List Expression)
     (ps : List Parameter) (vs : List Value)
-    → IsSound h
+    → IsSoundHistory h
     → operands (meaning_statements.arguments (program_of unit) scopes h es ps) ≡ Ok vs
     → All IsWhole vs
 

@@ -14,14 +14,14 @@ use Rattle.alf_ops.specs.declared.history.RunFault.{RunFault}
 use Rattle.alf_ops.specs.declared.history.FrameShape.{FrameShape}
 use Rattle.alf_ops.specs.declared.history.RunEvent.{RunEvent}
 use Rattle.alf_ops.specs.declared.history.RunEvent.TheVariants.{Enter, Leave, Store}
-use Rattle.alf_ops.specs.Histories.{is_active, is_running, load, store, IsSound}
+use Rattle.alf_ops.specs.Histories.{is_active, is_running, load, store, IsSoundHistory}
 use Rattle.alf_ops.specs.Values.{size_of, FitsValue}
 use Rattle.lowering_values.specs.Embedding.{Places, embedded_value, embedded_result, embedded_history, embedded_only}
 
 -- the inner history is sound, as each history of a run is
 pub record Agrees (place : ℕ → ℕ) (is_embedded : ℕ → Bool) (m h : List RunEvent) : Type 0 where
   pub same : embedded_only is_embedded m ≡ embedded_history place h
-  pub sound : IsSound h
+  pub sound : IsSoundHistory h
 
 abbrev pub AgreeAfter : (ℕ → ℕ) → (ℕ → Bool) → Result (List RunEvent) RunFault → Result (List RunEvent) RunFault
     → Type 0

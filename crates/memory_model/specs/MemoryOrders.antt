@@ -5,7 +5,7 @@
 use Rattle.std.specs.Prelude.{◌≡◌, ℕ, List}
 use Rattle.alf_ops.specs.declared.history.FrameShape.{FrameShape}
 use Rattle.alf_ops.specs.declared.history.RunEvent.{RunEvent}
-use Rattle.alf_ops.specs.Histories.{IsSound}
+use Rattle.alf_ops.specs.Histories.{IsSoundHistory}
 use Rattle.domain_core.specs.Orders.{Order, IsOrder}
 use Rattle.memory_rules.specs.AbstractSets.{abstract_sets}
 use Rattle.memory_rules.specs.Memories.{Mem, both, MemCovers, MemSized}
@@ -20,7 +20,7 @@ pub record AreAlike (a b : Mem abstract_sets) : Type 0 where
 abbrev pub memory_order : List FrameShape → Order (Mem abstract_sets)
 memory_order rows = record {
   alike = AreAlike;
-  under = λ a b. (history : List RunEvent) → IsSound history → MemCovers abstract_sets rows a history → MemCovers abstract_sets rows b history;
+  under = λ a b. (history : List RunEvent) → IsSoundHistory history → MemCovers abstract_sets rows a history → MemCovers abstract_sets rows b history;
   joined = both abstract_sets;
 }
 

@@ -5,7 +5,7 @@
 use Rattle.std.proofs.Common.{◌≡◌, subst, sym, List}
 use Rattle.alf_ops.specs.declared.history.FrameShape.{FrameShape}
 use Rattle.alf_ops.specs.declared.history.RunEvent.{RunEvent}
-use Rattle.alf_ops.specs.Histories.{IsSound}
+use Rattle.alf_ops.specs.Histories.{IsSoundHistory}
 use Rattle.alf_check.specs.CheckedPrograms.{CheckedParts}
 use Rattle.domain_core.specs.Orders.{IsOrder}
 use Rattle.memory_rules.specs.AbstractSets.{abstract_sets}
@@ -32,7 +32,7 @@ module _ (a b : MemoryParts) (alike : AreAlike a b) where
   joined_is = made_is a.checked (both abstract_sets (memory_in a) (memory_in b)) within
       (join_sized abstract_sets abstract_is_sets (memory_in a) (memory_in b) alike.first.sized alike.second.sized)
 
-  covers : (rows : List FrameShape) (history : List RunEvent) → IsSound history
+  covers : (rows : List FrameShape) (history : List RunEvent) → IsSoundHistory history
       → (MemCovers abstract_sets rows (memory_in a) history → MemCovers abstract_sets rows (both abstract_sets (memory_in a) (memory_in b)) history)
       × (MemCovers abstract_sets rows (memory_in b) history → MemCovers abstract_sets rows (both abstract_sets (memory_in a) (memory_in b)) history)
   covers rows history sound =

@@ -5,7 +5,7 @@
 use Rattle.std.proofs.Common.{◌≡◌, ℕ, List}
 use Rattle.alf_ops.specs.declared.history.FrameShape.{FrameShape}
 use Rattle.alf_ops.specs.declared.history.RunEvent.{RunEvent}
-use Rattle.alf_ops.specs.Histories.{IsSound}
+use Rattle.alf_ops.specs.Histories.{IsSoundHistory}
 use Rattle.domain_core.specs.Orders.{Order}
 use Rattle.memory_rules.specs.AbstractSets.{abstract_sets}
 use Rattle.memory_rules.specs.Memories.{both, MemCovers}
@@ -27,7 +27,7 @@ joined a b = made a.checked (both abstract_sets (memory_in a) (memory_in b))
 abbrev pub parts_order : Order MemoryParts
 parts_order = record {
   alike = AreAlike;
-  under = λ a b. (rows : List FrameShape) (history : List RunEvent) → IsSound history
+  under = λ a b. (rows : List FrameShape) (history : List RunEvent) → IsSoundHistory history
       → MemCovers abstract_sets rows (memory_in a) history → MemCovers abstract_sets rows (memory_in b) history;
   joined = joined;
 }

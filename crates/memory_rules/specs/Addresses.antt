@@ -16,7 +16,7 @@ use Rattle.alf_ops.specs.declared.history.RunFault.{RunFault}
 use Rattle.alf_ops.specs.declared.history.RunFault.TheVariants.{Kind, Dead, Bounds}
 use Rattle.alf_ops.specs.declared.history.FrameShape.{FrameShape}
 use Rattle.alf_ops.specs.declared.history.RunEvent.{RunEvent}
-use Rattle.alf_ops.specs.Histories.{offsets, fits_in, load, store, IsSound}
+use Rattle.alf_ops.specs.Histories.{offsets, fits_in, load, store, IsSoundHistory}
 use Rattle.alf_ops.specs.Values.{FitsValue, size_of}
 use Rattle.strided_rules.specs.Strides.{Stride}
 use Rattle.strided_rules.specs.Members.{has}
@@ -90,14 +90,14 @@ TellsOnly rows m at size (Err fault) =
 -- a load through an address that is covered is told
 abbrev pub LoadsAt : Type 0
 LoadsAt = (rows : List FrameShape) (m : Mem abstract_sets) (history : List RunEvent) (at : AbstractValue) (place : Value) (size : ℕ)
-    → IsSound history → MemSized abstract_sets m → MemCovers abstract_sets rows m history → IsCellSize size → IsValue 32 at → Covers at place
+    → IsSoundHistory history → MemSized abstract_sets m → MemCovers abstract_sets rows m history → IsCellSize size → IsValue 32 at → Covers at place
     → TellsLoad rows m at size (load rows history place size)
 
 -- after a store through an address that is covered, of a value that is covered, the memory covers the history with the
 -- store, and some cell is possible
 abbrev pub StoresAt : Type 0
 StoresAt = (rows : List FrameShape) (m : Mem abstract_sets) (history after : List RunEvent) (at set : AbstractValue) (place value : Value)
-    → IsSound history → MemSized abstract_sets m → MemCovers abstract_sets rows m history → IsCellSize (size_of value)
+    → IsSoundHistory history → MemSized abstract_sets m → MemCovers abstract_sets rows m history → IsCellSize (size_of value)
     → IsValue 32 at → IsValue (size_of value) set → FitsValue (size_of value) value → Covers at place → Covers set value
     → store rows history place value ≡ Ok after
     → MemCovers abstract_sets rows (stored_at rows m at (size_of value) set) after × (cells_of rows m.runs at.places (size_of value) ≢ [])
@@ -117,7 +117,7 @@ LoadsOnly = (rows : List FrameShape) (m : Mem abstract_sets) (history : List Run
 -- a store of one value through the one address that is covered keeps a memory sharp, and no fault is told
 abbrev pub StoresOnly : Type 0
 StoresOnly = (rows : List FrameShape) (m : Mem abstract_sets) (history after : List RunEvent) (at set : AbstractValue) (place value : Value)
-    → IsSound history → MemSized abstract_sets m → MemSharp abstract_sets rows m history → IsCellSize (size_of value)
+    → IsSoundHistory history → MemSized abstract_sets m → MemSharp abstract_sets rows m history → IsCellSize (size_of value)
     → IsValue 32 at → IsValue (size_of value) set → FitsValue (size_of value) value
     → OnlyCovers abstract_sets at place → OnlyCovers abstract_sets set value
     → store rows history place value ≡ Ok after

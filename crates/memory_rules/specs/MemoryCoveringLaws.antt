@@ -10,7 +10,7 @@ use Rattle.alf_ops.specs.declared.history.Value.{Value}
 use Rattle.alf_ops.specs.declared.history.FrameShape.{FrameShape}
 use Rattle.alf_ops.specs.declared.history.RunEvent.{RunEvent}
 use Rattle.alf_ops.specs.declared.history.RunEvent.TheVariants.{Enter, Leave, Store}
-use Rattle.alf_ops.specs.Histories.{Byte, cell_in, origin, put, is_active, is_owner, IsSound}
+use Rattle.alf_ops.specs.Histories.{Byte, cell_in, origin, put, is_active, is_owner, IsSoundHistory}
 use Rattle.alf_ops.specs.TableLaws.{origin_stored, origin_elsewhere}
 use Rattle.alf_ops.specs.Values.{FitsValue}
 use Rattle.alf_ops.specs.WholeCellLaws.{origin_is_table}
@@ -51,7 +51,7 @@ module _ (d : ValueSets) (laws : IsValueSets d) (rows : List FrameShape) where
     frames = λ frame row found runs. holds d laws row.bits (m.frames frame) (origin row.owner frame history) (c.frames frame row found runs);
   }
 
-  pub mem_covers : (m : Mem d) (history : List RunEvent) → MemSized d m → IsSound history → MemHolds d rows m history
+  pub mem_covers : (m : Mem d) (history : List RunEvent) → MemSized d m → IsSoundHistory history → MemHolds d rows m history
       → MemCovers d rows m history
   mem_covers m history sized sound h = record {
     active = h.active;

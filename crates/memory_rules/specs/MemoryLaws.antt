@@ -21,7 +21,7 @@ use Rattle.alf_ops.specs.declared.history.RunFault.{RunFault}
 use Rattle.alf_ops.specs.declared.history.FrameShape.{FrameShape}
 use Rattle.alf_ops.specs.declared.history.RunEvent.{RunEvent}
 use Rattle.alf_ops.specs.declared.history.RunEvent.TheVariants.{Enter, Leave, Store}
-use Rattle.alf_ops.specs.Histories.{Byte, origin, put, cell_in, fits_in, IsSound}
+use Rattle.alf_ops.specs.Histories.{Byte, origin, put, cell_in, fits_in, IsSoundHistory}
 use Rattle.alf_ops.specs.WholeCells.{IsTable}
 use Rattle.alf_ops.specs.Values.{FitsValue}
 use Rattle.memory_rules.specs.ValueSets.{ValueSets, OnlyCovers}
@@ -34,7 +34,7 @@ module _ (d : ValueSets) where
   -- after a store to one of several possible cells the memory covers the history with the store
   abbrev pub StoreCovers : Type 0
   StoreCovers = (rows : List FrameShape) (m : Mem d) (history : List RunEvent) (cells : List (ℕ × ℕ)) (frame offset size : ℕ) (set : d.Val) (value : Value)
-      → IsSound history → MemSized d m → MemCovers d rows m history
+      → IsSoundHistory history → MemSized d m → MemCovers d rows m history
       → IsCellSize size → d.val_sized set size → d.covers set value → FitsValue size value
       → ((cell : ℕ × ℕ) → Contains cells cell → IsPlaced rows history cell.0 cell.1 size)
       → Contains cells (frame, offset)
@@ -43,7 +43,7 @@ module _ (d : ValueSets) where
   -- a load of a cell of an active frame is among the results of the cell
   abbrev pub LoadCovers : Type 0
   LoadCovers = (rows : List FrameShape) (m : Mem d) (history : List RunEvent) (frame offset size : ℕ)
-      → IsSound history → MemSized d m → MemCovers d rows m history → IsCellSize size
+      → IsSoundHistory history → MemSized d m → MemCovers d rows m history → IsCellSize size
       → (p : IsPlaced rows history frame offset size)
       → Among d (cell_in (origin p.row.owner frame history) offset size) (load_results d (m.frames frame) offset size)
 
@@ -59,20 +59,20 @@ module _ (d : ValueSets) where
   -- what covers on a side covers after the join
   abbrev pub JoinCovers : Type 0
   JoinCovers = (rows : List FrameShape) (a b : Mem d) (history : List RunEvent)
-      → IsSound history → MemSized d a → MemSized d b → ((function : ℕ) → a.runs function ≡ b.runs function)
+      → IsSoundHistory history → MemSized d a → MemSized d b → ((function : ℕ) → a.runs function ≡ b.runs function)
       → (MemCovers d rows a history → MemCovers d rows (both d a b) history)
       × (MemCovers d rows b history → MemCovers d rows (both d a b) history)
 
   -- a function entered empties its frames
   abbrev pub EnterCovers : Type 0
   EnterCovers = (rows : List FrameShape) (m : Mem d) (history : List RunEvent) (function : ℕ)
-      → IsSound history → MemSized d m → MemCovers d rows m history
+      → IsSoundHistory history → MemSized d m → MemCovers d rows m history
       → MemCovers d rows (entered d rows m function) (Enter function ∷ history)
 
   -- a function left
   abbrev pub LeaveCovers : Type 0
   LeaveCovers = (rows : List FrameShape) (m : Mem d) (history : List RunEvent) (function : ℕ)
-      → IsSound history → MemSized d m → MemCovers d rows m history
+      → IsSoundHistory history → MemSized d m → MemCovers d rows m history
       → MemCovers d rows (left d m function) (Leave function ∷ history)
 
   -- a load from a sharp frame is exact
@@ -105,7 +105,7 @@ module _ (d : ValueSets) where
   -- a store of one value to the one possible cell keeps a whole memory sharp
   abbrev pub MemoryStaysSharp : Type 0
   MemoryStaysSharp = (rows : List FrameShape) (m : Mem d) (history : List RunEvent) (frame offset size : ℕ) (set : d.Val) (value : Value)
-      → IsSound history → MemSized d m → MemSharp d rows m history
+      → IsSoundHistory history → MemSized d m → MemSharp d rows m history
       → IsCellSize size → d.val_sized set size → OnlyCovers d set value → FitsValue size value → IsPlaced rows history frame offset size
       → MemSharp d rows (stored d m ((frame, offset) ∷ []) size set) (Store frame offset size value ∷ history)
 
@@ -121,20 +121,20 @@ module _ (d : ValueSets) where
   -- a load of one of several possible cells is among the results of all
   abbrev pub LoadsCover : Type 0
   LoadsCover = (rows : List FrameShape) (m : Mem d) (history : List RunEvent) (cells : List (ℕ × ℕ)) (frame offset size : ℕ)
-      → IsSound history → MemSized d m → MemCovers d rows m history → IsCellSize size
+      → IsSoundHistory history → MemSized d m → MemCovers d rows m history → IsCellSize size
       → (p : IsPlaced rows history frame offset size) → Contains cells (frame, offset)
       → Among d (cell_in (origin p.row.owner frame history) offset size) (load_all d m cells size)
 
   -- a function entered keeps it sharp
   abbrev pub EnterSharp : Type 0
   EnterSharp = (rows : List FrameShape) (m : Mem d) (history : List RunEvent) (function : ℕ)
-      → IsSound history → MemSized d m → MemSharp d rows m history
+      → IsSoundHistory history → MemSized d m → MemSharp d rows m history
       → MemSharp d rows (entered d rows m function) (Enter function ∷ history)
 
   -- and a function left
   abbrev pub LeaveSharp : Type 0
   LeaveSharp = (rows : List FrameShape) (m : Mem d) (history : List RunEvent) (function : ℕ)
-      → IsSound history → MemSized d m → MemSharp d rows m history
+      → IsSoundHistory history → MemSized d m → MemSharp d rows m history
       → MemSharp d rows (left d m function) (Leave function ∷ history)
 
   -- each call keeps the sizes
@@ -163,7 +163,7 @@ module _ (d : ValueSets) where
   abbrev pub MemoryPinCovers : Type 0
   MemoryPinCovers =
       (rows : List FrameShape) (m : Mem d) (history : List RunEvent) (frame offset size : ℕ) (set : d.Val) (value : Value)
-      → IsSound history → MemSized d m → MemCovers d rows m history → IsCellSize size → d.val_sized set size
+      → IsSoundHistory history → MemSized d m → MemCovers d rows m history → IsCellSize size → d.val_sized set size
       → (p : IsPlaced rows history frame offset size) → cell_in (origin p.row.owner frame history) offset size ≡ Ok value → d.covers set value
       → MemCovers d rows (pinned_at d m (frame, offset) size set) history
 
@@ -171,7 +171,7 @@ module _ (d : ValueSets) where
   abbrev pub MemoryPinSharp : Type 0
   MemoryPinSharp =
       (rows : List FrameShape) (m : Mem d) (history : List RunEvent) (frame offset size : ℕ) (set : d.Val) (value : Value)
-      → IsSound history → MemSized d m → MemSharp d rows m history → IsCellSize size → d.val_sized set size
+      → IsSoundHistory history → MemSized d m → MemSharp d rows m history → IsCellSize size → d.val_sized set size
       → (p : IsPlaced rows history frame offset size) → cell_in (origin p.row.owner frame history) offset size ≡ Ok value → OnlyCovers d set value
       → MemSharp d rows (pinned_at d m (frame, offset) size set) history
 

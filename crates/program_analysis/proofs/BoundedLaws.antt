@@ -43,10 +43,10 @@ use Rattle.program_machines.specs.ProgramRunLaws.{program_run, stands_there}
 use Rattle.program_machines.specs.Starts.{AreLone, lows, lone_start}
 use Rattle.program_machines.specs.StartLaws.{one_history}
 use Rattle.program_analysis.specs.Analyses.{first_pool, IsClosed}
-use Rattle.program_analysis.specs.Sound.{HasAlarm}
+use Rattle.program_analysis.specs.Sound.{HasAlarmForOutcome}
 use Rattle.program_analysis.specs.SoundLaws.{IsOutcomeOf, passes_runs, same_cost}
 use Rattle.program_analysis.specs.LoneLaws.{AreFit, along_fit}
-use Rattle.program_analysis.specs.BoundedSound.{IsSound, IsRightFor}
+use Rattle.program_analysis.specs.BoundedSound.{IsSoundByBounds, IsRightFor}
 
 -- ---- a program has a run
 
@@ -64,9 +64,9 @@ pub low_start : (program : NumberedProgram) (rows : List InputRow) → All (Keep
 low_start program rows each = record { numbers = lows rows; within = lows_within program rows each; starts = refl }
 
 alarm_of : (facts : List Fact) (trace : List ℕ) (fault : Option RunFault) (outcome : Outcome)
-    → IsOutcomeOf fault outcome → HasFaultAlarm facts trace fault → HasAlarm trace outcome facts
-alarm_of facts trace None outcome (outputs, is) alarm = subst (λ (end : Outcome). HasAlarm trace end facts) (sym is) tt
-alarm_of facts trace (Some fault) outcome is alarm = subst (λ (end : Outcome). HasAlarm trace end facts) (sym is) alarm
+    → IsOutcomeOf fault outcome → HasFaultAlarm facts trace fault → HasAlarmForOutcome trace outcome facts
+alarm_of facts trace None outcome (outputs, is) alarm = subst (λ (end : Outcome). HasAlarmForOutcome trace end facts) (sym is) tt
+alarm_of facts trace (Some fault) outcome is alarm = subst (λ (end : Outcome). HasAlarmForOutcome trace end facts) (sym is) alarm
 
 -- ---- reports that are found
 
@@ -112,7 +112,7 @@ module _ (parts : StepperParts) (o : Outlined) (policy : Policy) (turns : ℕ) (
     path_sound = bounded_sound (stepped_by parts) o given (bounded o given pivots) pivots (along_fit parts o fit) told_in given_sound refl right_bound.above
 
     sound_in : (costs : CostTable) → HasCosts (seen parts.checked) parts.graph costs o
-        → IsSound (seen parts.checked) parts.graph parts.rows (shape_of o) costs (bounded o given pivots)
+        → IsSoundByBounds (seen parts.checked) parts.graph parts.rows (shape_of o) costs (bounded o given pivots)
     sound_in costs priced start from =
         let program = seen parts.checked in
         let graph = parts.graph in

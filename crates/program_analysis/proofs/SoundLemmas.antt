@@ -19,20 +19,20 @@ use Rattle.transfer_rules.specs.PointLaws.{Promises}
 use Rattle.report_soundness.specs.Runs.{HasAlarm as HasFaultAlarm, IsSound as IsSoundSystem}
 use Rattle.program_machines.specs.NodeCosts.{HasCosts}
 use Rattle.program_machines.specs.ProgramRunLaws.{program_run, stands_there}
-use Rattle.program_analysis.specs.Sound.{HasAlarm, IsSound}
+use Rattle.program_analysis.specs.Sound.{HasAlarmForOutcome, IsSoundByCount}
 use Rattle.program_analysis.specs.SoundLaws.{IsOutcomeOf, passes_runs, same_cost, SoundForSystemIsSound}
 
 -- ---- soundness
 
 alarm_of : (facts : List Fact) (trace : List ℕ) (fault : Option RunFault) (outcome : Outcome)
-    → IsOutcomeOf fault outcome → HasFaultAlarm facts trace fault → HasAlarm trace outcome facts
-alarm_of facts trace None outcome (outputs, is) alarm = subst (λ (end : Outcome). HasAlarm trace end facts) (sym is) tt
-alarm_of facts trace (Some fault) outcome is alarm = subst (λ (end : Outcome). HasAlarm trace end facts) (sym is) alarm
+    → IsOutcomeOf fault outcome → HasFaultAlarm facts trace fault → HasAlarmForOutcome trace outcome facts
+alarm_of facts trace None outcome (outputs, is) alarm = subst (λ (end : Outcome). HasAlarmForOutcome trace end facts) (sym is) tt
+alarm_of facts trace (Some fault) outcome is alarm = subst (λ (end : Outcome). HasAlarmForOutcome trace end facts) (sym is) alarm
 
 -- why the report is sound
 pub sound_of : Promises → (program : NumberedProgram) (graph : GraphParts) (rows : List InputRow) (o : Outlined) (costs : CostTable) (report : Reported)
     → IsKept program → IsGraph program graph → HasCosts program graph costs o → IsSoundSystem (run_system program graph rows) o report
-    → IsSound program graph rows (shape_of o) costs report
+    → IsSoundByCount program graph rows (shape_of o) costs report
 sound_of promises program graph rows o costs report keeps is priced sound start from =
     let run = sound.ends (points program graph start) (program_run promises program graph keeps is rows start from) in
     let right = sound.right run.start run.trace run.fault run.starts run.passes in

@@ -1,7 +1,7 @@
 -- When a report with both bounds is sound for a program, in the words of the program's runs.
---   IsSoundFor program graph o costs report start   the run from the start ends; it meets each fact, its fault has an alarm, and it costs no
+--   IsSoundByBoundsFor program graph o costs report start   the run from the start ends; it meets each fact, its fault has an alarm, and it costs no
 --       more than the count bound, and no more than the path bound
---   IsSound program graph rows o costs report       so it is for each start with inputs inside the ranges
+--   IsSoundByBounds program graph rows o costs report       so it is for each start with inputs inside the ranges
 --   IsRightFor parts o report       the report is sound for the program of the parts; its path bound is at most its count bound, and with `Least` the
 --       greatest worth of a point that meets its rows, rounded down
 --   FoundReportsAreRight            the law
@@ -31,30 +31,30 @@ use Rattle.program_machines.specs.Starts.{AreLone}
 use Rattle.report_soundness.specs.Bounded.{HasPathBound, IsWithinCount, IsLeastOf}
 use Rattle.report_soundness.specs.ReportTold.{found_of}
 use Rattle.report_soundness.specs.BoundTold.{HaveTotals}
-use Rattle.program_analysis.specs.Sound.{HasAlarm}
+use Rattle.program_analysis.specs.Sound.{HasAlarmForOutcome}
 use Rattle.program_analysis.specs.Analyses.{IsClosed}
 use Rattle.program_analysis.specs.BoundedAnalyses.{IsClosedWith, IsBoundedReport}
 
 -- the run from the start ends; it meets each fact, its fault has an alarm, and it costs no more than each bound
-pub record IsSoundFor (program : NumberedProgram) (graph : GraphParts) (o : Shape) (costs : CostTable)
+pub record IsSoundByBoundsFor (program : NumberedProgram) (graph : GraphParts) (o : Shape) (costs : CostTable)
     (report : Reported) (start : Moment) : Type 0 where
   pub trace : List ℕ
   pub outcome : Outcome
   pub runs : Runs program graph.nodes start trace outcome
   pub facts : All (Meets o trace) report.facts
-  pub alarm : HasAlarm trace outcome report.facts
+  pub alarm : HasAlarmForOutcome trace outcome report.facts
   pub count : cost_of (node_cost program costs) runs.run ≤ report.count_bound
   pub path : HasPathBound (λ b. cost_of (node_cost program costs) runs.run ≤ b.0) report
 
 -- so it is for each start with inputs inside the ranges of the rows
-abbrev pub IsSound : NumberedProgram → GraphParts → List InputRow → Shape → CostTable → Reported → Type 0
-IsSound program graph rows o costs report = (start : Moment) → IsStart program rows start → IsSoundFor program graph o costs report start
+abbrev pub IsSoundByBounds : NumberedProgram → GraphParts → List InputRow → Shape → CostTable → Reported → Type 0
+IsSoundByBounds program graph rows o costs report = (start : Moment) → IsStart program rows start → IsSoundByBoundsFor program graph o costs report start
 
 -- the report is sound for the program of the parts, by the costs that the outline has; its path bound is at most its
 -- count bound, and with `Least` the greatest worth of a point that meets its rows, rounded down
 pub record IsRightFor (parts : StepperParts) (o : Outlined) (report : Reported) : Type 0 where
   pub sound : (costs : CostTable) → HasCosts (seen parts.checked) parts.graph costs o
-      → IsSound (seen parts.checked) parts.graph parts.rows (shape_of o) costs report
+      → IsSoundByBounds (seen parts.checked) parts.graph parts.rows (shape_of o) costs report
   pub within : IsWithinCount report
   pub least : IsLeastOf o report
 

@@ -1,8 +1,8 @@
 -- When a report is sound for a program, in the words of the program's runs.
---   HasAlarm trace outcome facts    where the run faults, the facts have an alarm for the fault at its last node
---   IsSoundFor program graph o costs report start   the run from the start ends; it meets each fact, its fault has an alarm, and it costs no
+--   HasAlarmForOutcome trace outcome facts    where the run faults, the facts have an alarm for the fault at its last node
+--   IsSoundByCountFor program graph o costs report start   the run from the start ends; it meets each fact, its fault has an alarm, and it costs no
 --       more than the bound
---   IsSound program graph rows o costs report       so it is for each start with inputs inside the ranges
+--   IsSoundByCount program graph rows o costs report       so it is for each start with inputs inside the ranges
 use Rattle.std.specs.Prelude.{◌≤◌, ⊤, ℕ, List, All}
 use Rattle.alf_check.specs.CheckedPrograms.{NumberedProgram}
 use Rattle.alf_check.specs.declared.rows.InputRow.{InputRow}
@@ -21,21 +21,21 @@ use Rattle.report_soundness.specs.Runs.{HasAlarmOf}
 use Rattle.program_machines.specs.NodeCosts.{node_cost}
 
 -- where the run faults, the facts have an alarm for the fault at its last node
-abbrev pub HasAlarm : List ℕ → Outcome → List Fact → Type 0
-HasAlarm trace (Ended outputs) facts = ⊤
-HasAlarm trace (Faulted fault) facts = HasAlarmOf facts trace fault
-HasAlarm trace Lost facts = ⊥
+abbrev pub HasAlarmForOutcome : List ℕ → Outcome → List Fact → Type 0
+HasAlarmForOutcome trace (Ended outputs) facts = ⊤
+HasAlarmForOutcome trace (Faulted fault) facts = HasAlarmOf facts trace fault
+HasAlarmForOutcome trace Lost facts = ⊥
 
 -- the run from the start ends; it meets each fact, its fault has an alarm, and it costs no more than the bound
-pub record IsSoundFor (program : NumberedProgram) (graph : GraphParts) (o : Shape) (costs : CostTable)
+pub record IsSoundByCountFor (program : NumberedProgram) (graph : GraphParts) (o : Shape) (costs : CostTable)
     (report : Reported) (start : Moment) : Type 0 where
   pub trace : List ℕ
   pub outcome : Outcome
   pub runs : Runs program graph.nodes start trace outcome
   pub facts : All (Meets o trace) report.facts
-  pub alarm : HasAlarm trace outcome report.facts
+  pub alarm : HasAlarmForOutcome trace outcome report.facts
   pub bound : cost_of (node_cost program costs) runs.run ≤ report.count_bound
 
 -- so it is for each start with inputs inside the ranges of the rows
-abbrev pub IsSound : NumberedProgram → GraphParts → List InputRow → Shape → CostTable → Reported → Type 0
-IsSound program graph rows o costs report = (start : Moment) → IsStart program rows start → IsSoundFor program graph o costs report start
+abbrev pub IsSoundByCount : NumberedProgram → GraphParts → List InputRow → Shape → CostTable → Reported → Type 0
+IsSoundByCount program graph rows o costs report = (start : Moment) → IsStart program rows start → IsSoundByCountFor program graph o costs report start

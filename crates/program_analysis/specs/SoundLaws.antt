@@ -30,7 +30,7 @@ use Rattle.report_soundness.specs.ReportTold.{costs_of}
 use Rattle.worklist_rules.specs.EndedRuns.{EndsWith, Passes, stops, moves}
 use Rattle.report_soundness.specs.Runs.{IsSound as IsSoundSystem}
 use Rattle.program_machines.specs.NodeCosts.{node_cost, HasCosts}
-use Rattle.program_analysis.specs.Sound.{IsSound}
+use Rattle.program_analysis.specs.Sound.{IsSoundByCount}
 
 -- the outcome is this fault, or outputs
 abbrev pub IsOutcomeOf : Option RunFault → Outcome → Type 0
@@ -114,4 +114,4 @@ same_cost program graph costs o trace run priced numbers =
 abbrev pub SoundForSystemIsSound : Type 0
 SoundForSystemIsSound = (parts : StepperParts) (o : Outlined) (costs : CostTable) (report : Reported) → IsKept (seen parts.checked) → IsGraph (seen parts.checked) parts.graph
     → HasCosts (seen parts.checked) parts.graph costs o → IsSoundSystem (stepped_by parts).system o report
-    → IsSound (seen parts.checked) parts.graph parts.rows (shape_of o) costs report
+    → IsSoundByCount (seen parts.checked) parts.graph parts.rows (shape_of o) costs report

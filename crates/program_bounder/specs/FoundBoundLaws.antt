@@ -18,7 +18,7 @@ use Rattle.program_analysis.specs.Answers.{Told}
 use Rattle.program_analysis.specs.TwinMachines.{IsProgramOf}
 use Rattle.program_analysis.specs.LoneAnalyses.{LoneAnalysisIsExact}
 use Rattle.program_analysis.specs.BoundedAnalyses.{IsBoundedReport}
-use Rattle.program_analysis.specs.BoundedSound.{IsSoundFor, FoundReportsAreRight, LoneBoundsAgree}
+use Rattle.program_analysis.specs.BoundedSound.{IsSoundByBoundsFor, FoundReportsAreRight, LoneBoundsAgree}
 use Rattle.program_bounder.specs.FoundBounds.{BoundedRun, LoneCost}
 
 -- ---- in the words of the program
@@ -28,7 +28,7 @@ module _ (program : NumberedProgram) (checked : CheckedParts) (is : IsProgramOf 
   costs_same costs = ap (λ (p : NumberedProgram). node_cost p costs) is
 
   bounded_run : (graph : GraphParts) (rows : List InputRow) (o : Shape) (costs : CostTable) (report : Reported) (input : List ℤ)
-      → IsSoundFor (seen checked) graph o costs report (start (seen checked) rows (words_of rows input)) → BoundedRun program graph rows costs report input
+      → IsSoundByBoundsFor (seen checked) graph o costs report (start (seen checked) rows (words_of rows input)) → BoundedRun program graph rows costs report input
   bounded_run graph rows o costs report input h =
       subst (λ (p : NumberedProgram). BoundedRun p graph rows costs report input) is (record { trace = h.trace; outcome = h.outcome; runs = h.runs; path = h.path })
 

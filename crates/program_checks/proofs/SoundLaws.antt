@@ -23,9 +23,9 @@ use Rattle.report_soundness.specs.Bounded.{with_count_bound}
 use Rattle.program_machines.specs.NodeCosts.{node_cost, HasCosts}
 use Rattle.program_analysis.specs.SoundLaws.{SoundForSystemIsSound}
 use Rattle.program_analysis.specs.LoneLaws.{along_fit}
-use Rattle.report_objections.specs.Accepted.{CostAtMost, IsSoundReport}
+use Rattle.report_objections.specs.Accepted.{CostAtMost, IsSoundWithPath}
 use Rattle.report_objections.specs.SoundLaws.{accepted_sound}
-use Rattle.program_checks.specs.Sound.{IsSound, AcceptedAreSound}
+use Rattle.program_checks.specs.Sound.{IsSoundAccepted, AcceptedAreSound}
 
 -- ---- the lesser of both bounds
 
@@ -61,8 +61,8 @@ under (Some b) c v low within = omega (arith, low, within)
 -- a report that is sound for the system of the machine is sound for the program
 pub sound_report : SoundForSystemIsSound → (parts : StepperParts) (o : Outlined) (costs : CostTable) (report : Reported)
     → IsKept (seen parts.checked) → IsGraph (seen parts.checked) parts.graph
-    → HasCosts (seen parts.checked) parts.graph costs o → IsSoundReport (stepped_by parts).system o report
-    → IsSound (seen parts.checked) parts.graph parts.rows (shape_of o) costs report
+    → HasCosts (seen parts.checked) parts.graph costs o → IsSoundWithPath (stepped_by parts).system o report
+    → IsSoundAccepted (seen parts.checked) parts.graph parts.rows (shape_of o) costs report
 sound_report law parts o costs report keeps is priced sound start from =
     let least = lesser (stepped_by parts).system o report sound.sound report.path_bound sound.path in
     let for = law parts o costs (with_count_bound report least.v) keeps is priced least.sound start from in

@@ -13,8 +13,8 @@ ghost use Rattle.memory_model.specs.SeenOrders.{parts_order};
 ghost use Rattle.abstract_step.specs.Steppers.{stepped_by};
 ghost use Rattle.program_machines.specs.NodeCosts.{HasCosts};
 ghost use Rattle.report_objections.specs.Checks.{IsChecked};
-ghost use Rattle.report_objections.specs.Accepted.{IsScaled, IsSoundReport};
-ghost use Rattle.program_checks.specs.Sound.{IsSound};
+ghost use Rattle.report_objections.specs.Accepted.{IsScaled, IsSoundWithPath};
+ghost use Rattle.program_checks.specs.Sound.{IsSoundAccepted};
 
 use abstract_step::AlfStepper;
 use alf_check::{Checked, InputRow};
@@ -50,7 +50,7 @@ pub fn objection_to_report(
     // so, and costs at most each bound.
     ensures sound { IfOk result
         (λ objection. objection ≡ None → (costs : CostTable) → HasCosts (seen checked.now) graph.now costs outline.now
-        → IsSound (seen checked.now) graph.now rows.now (shape_of outline.now) costs (reported report.now)) }
+        → IsSoundAccepted (seen checked.now) graph.now rows.now (shape_of outline.now) costs (reported report.now)) }
 {
     checked.keeps();
     sound_reports_are_sound_for_the_program();
@@ -72,7 +72,7 @@ fn objection_along(
         (λ objection. IsChecked stepped_by parts_order stepper.now outline.now (reported report.now) objection) }
     ensures sound { IfOk result
         (λ objection. objection ≡ None
-        → IsSoundReport (stepped_by stepper.now).system outline.now (reported report.now)) }
+        → IsSoundWithPath (stepped_by stepper.now).system outline.now (reported report.now)) }
 {
     stepper.goes_along();
     let objection = objection_to(alloc, stepper, outline, report)?;

@@ -15,7 +15,7 @@ ghost use Rattle.report_objections.specs.Objecting.{path_objection as path_objec
 ghost use Rattle.report_objections.specs.Objecting.{found_objection as found_objection_of};
 ghost use Rattle.report_objections.specs.Objecting.{end_objection as end_objection_of};
 ghost use Rattle.report_objections.specs.Checks.{IsChecked};
-ghost use Rattle.report_objections.specs.Accepted.{IsSoundReport, IsScaled};
+ghost use Rattle.report_objections.specs.Accepted.{IsSoundWithPath, IsScaled};
 
 use crate::alarms::lacking;
 use crate::applying::applied;
@@ -202,7 +202,7 @@ pub fn objection_to<S: Stepper>(
     // alarm says so, and costs no more than each bound.
     ensures sound { IfOk result
         (λ objection. objection ≡ None
-        → IsSoundReport (S.machine stepper.now).system outline.now (reported report.now)) }
+        → IsSoundWithPath (S.machine stepper.now).system outline.now (reported report.now)) }
 {
     stepper.kept();
     outline.kept();

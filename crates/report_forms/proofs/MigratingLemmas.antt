@@ -6,7 +6,7 @@ use Rattle.domain_core.specs.Outlines.{Outlined}
 use Rattle.domain_core.specs.Machines.{System}
 use Rattle.flow_facts.specs.Reports.{Reported}
 use Rattle.report_soundness.specs.Runs.{IsRightOf}
-use Rattle.report_objections.specs.Accepted.{IsSoundReport}
+use Rattle.report_objections.specs.Accepted.{IsSoundWithPath}
 use Rattle.report_forms.specs.Migrating.{migrated}
 
 -- what is asked of runs asks nothing of the form
@@ -19,8 +19,8 @@ same_right : (o : Outlined) (report : Reported) (trace : List ℕ) (fault : Opti
 same_right o report trace fault right = record { facts = right.facts; alarm = right.alarm; bound = right.bound }
 
 -- it is sound where the given one is
-pub migrated_sound : {C : Type 0} (system : System C) (o : Outlined) (report : Reported) → IsSoundReport system o report
-    → IsSoundReport system o (migrated report)
+pub migrated_sound : {C : Type 0} (system : System C) (o : Outlined) (report : Reported) → IsSoundWithPath system o report
+    → IsSoundWithPath system o (migrated report)
 migrated_sound system o report is = record {
   sound = record {
     ends = is.sound.ends;
@@ -31,7 +31,7 @@ migrated_sound system o report is = record {
 
 -- and nowhere else
 pub sound_migrated : {C : Type 0} (system : System C) (o : Outlined) (report : Reported)
-    → IsSoundReport system o (migrated report) → IsSoundReport system o report
+    → IsSoundWithPath system o (migrated report) → IsSoundWithPath system o report
 sound_migrated system o report is = record {
   sound = record {
     ends = is.sound.ends;

@@ -46,7 +46,7 @@ use Rattle.report_objections.specs.declared.objection.Objection.TheVariants as o
 use Rattle.report_objections.specs.Shaping.{rows_of, IsShaped, HasShape}
 use Rattle.report_objections.specs.Objecting.{place_of, excludes, first_line, fact_objection, is_alarm, lacks, first_lacking, alarm_objection, most_cost, count_objection, path_bound_of, verdict_objection, path_objection, found_objection, left_objection, end_objection}
 use Rattle.report_objections.specs.Checks.{IsChecked, uncertified, unshaped, refused, applied}
-use Rattle.report_objections.specs.Accepted.{CostAtMost, IsSoundReport, IsScaled}
+use Rattle.report_objections.specs.Accepted.{CostAtMost, IsSoundWithPath, IsScaled}
 use Rattle.report_objections.specs.MetLaws.{fact_is_met}
 use Rattle.report_objections.specs.CountLaws.{cost_within}
 use Rattle.report_objections.specs.PathLaws.{path_above}
@@ -241,7 +241,7 @@ module _ {S T C : Type 0} (machine : S → Machine T C) (w : Pooled S T FourReco
       holds_bounds program cert.scale cert.multipliers (path_bound_of report) held.value (program_within (shape_of w.outline) (costs_of w.outline) report.facts) scaled held.is in
       path_above (machine w.stepper) w.outline report held.value (path_bound_of report) ok kept.along sound_here shape.shaped.facts all
 
-  sound_end : IsSoundReport (machine w.stepper).system w.outline report
+  sound_end : IsSoundWithPath (machine w.stepper).system w.outline report
   sound_end = record { sound = sound_here; path = by report.path_bound path_here }
     where
       by : (t : Option (ℕ × BoundWord))
@@ -256,7 +256,7 @@ no_answer x y none some = let bad : None ≡ Some y = sym none ∙ some in cc
 -- a report against which nothing speaks is sound, whatever the events of its certificate
 pub accepted_sound : {S T C : Type 0} (machine : S → Machine T C) (states : Order T) (stepper : S) (o : Outlined) (report : Reported)
     → IsOrder T states → ((s : S) → (machine s).kept → IsMachine T C states (machine s)) → (machine stepper).kept → IsOutline (shape_of o) → IsAlong T C (shape_of o) (machine stepper)
-    → IsScaled report → (answer : Option Objection) → answer ≡ None → IsChecked machine states stepper o report answer → IsSoundReport (machine stepper).system o report
+    → IsScaled report → (answer : Option Objection) → answer ≡ None → IsChecked machine states stepper o report answer → IsSoundWithPath (machine stepper).system o report
 accepted_sound machine states stepper o report states_laws machine_laws stepper_kept ok along scaled answer none (uncertified absent is) = absurd (no_answer answer objections.NoCertificate none is)
 accepted_sound machine states stepper o report states_laws machine_laws stepper_kept ok along scaled answer none (unshaped cert there shapeless is) = absurd (no_answer answer objections.NoShape none is)
 accepted_sound machine states stepper o report states_laws machine_laws stepper_kept ok along scaled answer none (refused cert k event w there shape found happen never is) =
@@ -266,5 +266,5 @@ accepted_sound {S = S} machine states stepper o report states_laws machine_laws 
     let same = events_one_on machine states cert.events (opened machine four_recording stepper o) w happen in
     let at_least : pos 0 <ℤ cert.scale = subst (λ (t : Option Certificate). IfSome t (λ c. pos 0 <ℤ c.scale)) there scaled in
     let here = sound_end machine w report cert kept (subst (λ (p : Outlined). HasShape p report cert) (sym same.outline) shape) at_least (sym is ∙ none) in
-    subst (λ (p : Outlined). IsSoundReport (machine stepper).system p report) same.outline
-    (subst (λ (s : S). IsSoundReport (machine s).system w.outline report) same.stepper here)
+    subst (λ (p : Outlined). IsSoundWithPath (machine stepper).system p report) same.outline
+    (subst (λ (s : S). IsSoundWithPath (machine s).system w.outline report) same.stepper here)

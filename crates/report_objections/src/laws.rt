@@ -15,7 +15,7 @@ ghost use Rattle.report_soundness.specs.ReportTold.{told_facts, told_report};
 ghost use Rattle.report_soundness.specs.BoundTold.{HaveTotals};
 ghost use Rattle.report_objections.specs.declared.objection.Objection.{Objection};
 ghost use Rattle.report_objections.specs.Checks.{IsChecked};
-ghost use Rattle.report_objections.specs.Accepted.{IsSoundReport, IsScaled};
+ghost use Rattle.report_objections.specs.Accepted.{IsSoundWithPath, IsScaled};
 ghost use Rattle.report_objections.specs.OwnLaws.{with_certificate, AreHeld};
 
 use domain_core::Stepper;
@@ -27,7 +27,7 @@ pub fn accepted_reports_are_sound<S: Stepper>()
     ensures { (stepper : S) (o : Outlined) (report : Reported) → (S.machine stepper).kept → IsOutline (shape_of o)
         → IsAlong S.State S.Concrete (shape_of o) (S.machine stepper) → IsScaled report
         → IsChecked S.machine S.State.order stepper o report None
-        → IsSoundReport (S.machine stepper).system o report }
+        → IsSoundWithPath (S.machine stepper).system o report }
 {}
 
 /// A report has one answer.

@@ -32,7 +32,7 @@ use Rattle.report_objections.specs.Shaping.{tells_total}
 use Rattle.report_objections.specs.Objecting.{first_line}
 use Rattle.report_objections.specs.CountLaws.{most_of}
 use Rattle.run_replays.specs.declared.walked.RunBook.{RunBook}
-use Rattle.run_replays.specs.Replays.{Told, IsInside, TellEnd, TellsRun, stops, ends}
+use Rattle.run_replays.specs.Replays.{Told, IsInside, TellEnd, TellsReplayedRun, stops, ends}
 use Rattle.run_replays.specs.Walks.{IsPassed, IsOver}
 use Rattle.run_replays.proofs.Allowing.{are_within}
 
@@ -72,7 +72,7 @@ module _ (program : NumberedProgram) (graph : GraphParts) (o : Outlined) (begin 
   -- a run that comes to a node too often stops there
   pub told_stop : (n place : ℕ) → IsPassed program graph begin visits n
       → position (λ f. tells_total n f) report.facts ≡ Some place
-      → TellsRun program graph.nodes begin (shape_of o) (costs_of o) report (Err (NoFact (first_line report + place)))
+      → TellsReplayedRun program graph.nodes begin (shape_of o) (costs_of o) report (Err (NoFact (first_line report + place)))
   told_stop n place passed is =
       let line = most n (passed_low n passed) in
       let full = passed.full in
@@ -91,7 +91,7 @@ module _ (program : NumberedProgram) (graph : GraphParts) (o : Outlined) (begin 
 
   -- what is told of a run that is over
   pub told_end : {R B : Type 0} (z : Recording R B) (run : RunBook B) (told : Told) (over : IsOver z program graph o begin visits run)
-      → TellEnd (shape_of o) (costs_of o) report (reverse (run.last ∷ over.past)) run.fault told → TellsRun program graph.nodes begin (shape_of o) (costs_of o) report told
+      → TellEnd (shape_of o) (costs_of o) report (reverse (run.last ∷ over.past)) run.fault told → TellsReplayedRun program graph.nodes begin (shape_of o) (costs_of o) report told
   told_end z run told over tells =
       ends (reverse (run.last ∷ over.past)) over.outcome over.runs (are_within o report.facts visits (reverse (run.last ∷ over.past)) long most over.within)
       (subst (λ (fault : Option RunFault). TellEnd (shape_of o) (costs_of o) report (reverse (run.last ∷ over.past)) fault told) over.fault tells)

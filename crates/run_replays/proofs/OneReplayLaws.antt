@@ -32,7 +32,7 @@ use Rattle.report_objections.specs.declared.objection.Objection.{Objection}
 use Rattle.report_objections.specs.declared.objection.Objection.TheVariants.{NoAlarm, NoFact, Outside}
 use Rattle.report_objections.specs.Shaping.{tells_total, IsShaped}
 use Rattle.report_objections.specs.Objecting.{first_line}
-use Rattle.run_replays.specs.Replays.{Told, Asks, objects, passes, IsUnshaped, IsInside, IsOutside, AreWithinLines, Reaches, IsStop, fault_of, LacksAlarm, IsUnmet, IsAboveCount, IsAbovePath, TellBounds, TellFacts, TellEnd, TellsRun, stops, ends, IsReplayed}
+use Rattle.run_replays.specs.Replays.{Told, Asks, objects, passes, IsUnshaped, IsInside, IsOutside, AreWithinLines, Reaches, IsStop, fault_of, LacksAlarm, IsUnmet, IsAboveCount, IsAbovePath, TellBounds, TellFacts, TellEnd, TellsReplayedRun, stops, ends, IsReplayed}
 use Rattle.run_replays.specs.OneReplay.{Differ}
 
 -- ---- one thing that is asked
@@ -246,7 +246,7 @@ module _ (more : AfterMore) (over : StaysOver) (one : HasOneEnd) (program : Numb
       ]
 
   -- one thing is told of a run
-  run_one : (a b : Told) → TellsRun program nodes begin o costs report a → TellsRun program nodes begin o costs report b
+  run_one : (a b : Told) → TellsReplayedRun program nodes begin o costs report a → TellsReplayedRun program nodes begin o costs report b
       → a ≡ b
   run_one a b (stops e first is) (stops f second same) = is ∙ ap (λ (x : Objection). Err x) (stops_one e f first second) ∙ sym same
   run_one a b (stops e first is) (ends trace outcome runs within told) = absurd (stop_ends e first trace outcome runs within)

@@ -13,7 +13,7 @@
 --   IsUnmet o report trace e      this line is the first that the run does not meet
 --   IsAboveCount report cost e, IsAbovePath report cost e   the run costs more than the bound
 --   TellBounds, TellFacts, TellEnd   what the bounds tell of a run that is over, what the lines before them, and what alarms before these
---   TellsRun program nodes begin o costs report told   what is told of the run from there
+--   TellsReplayedRun program nodes begin o costs report told   what is told of the run from there
 --   TellsValues program nodes rows o report values told   what is told of the run from these values, against a report of the right form
 --   IsReplayed program nodes rows o report values told   what is told of it against any report
 use Rattle.std.specs.Prelude.{◌≡◌, ◌<◌, ◌≤◌, ◌+◌, ℕ, ℤ, List, [], ◌∷◌, ◌++◌, length, position, take, slice_get, All, Contains, Option, None, Some, IfSome, Result, Ok, Err}
@@ -160,18 +160,18 @@ abbrev pub TellEnd : Shape → List ℕ → Reported → List ℕ → Option Run
 TellEnd o costs report trace fault = Asks (LacksAlarm report.facts trace fault) (HasAlarm report.facts trace fault) (TellFacts o costs report trace)
 
 -- what is told of the run from there: it stops where a node passes its line, and else is over
-pub data TellsRun (program : NumberedProgram) (nodes : List Node) (begin : Moment) (o : Shape) (costs : List ℕ)
+pub data TellsReplayedRun (program : NumberedProgram) (nodes : List Node) (begin : Moment) (o : Shape) (costs : List ℕ)
     (report : Reported) (told : Told) : Type 0 where
   stops : (e : Objection) → IsStop program nodes begin report e → told ≡ Err e
-      → TellsRun program nodes begin o costs report told
+      → TellsReplayedRun program nodes begin o costs report told
   ends : (trace : List ℕ) (outcome : Outcome) → Runs program nodes begin trace outcome
       → AreWithinLines report.facts trace → TellEnd o costs report trace (fault_of outcome) told
-      → TellsRun program nodes begin o costs report told
+      → TellsReplayedRun program nodes begin o costs report told
 
 -- what is told of the run from these values against a report of the right form
 abbrev pub TellsValues : NumberedProgram → List Node → List InputRow → Outlined → Reported → List ℤ → Told → Type 0
 TellsValues program nodes rows o report values =
-    Asks (IsOutside rows values) (AreWithin rows values) (TellsRun program nodes (start program rows (words_of rows values)) (shape_of o) (costs_of o) report)
+    Asks (IsOutside rows values) (AreWithin rows values) (TellsReplayedRun program nodes (start program rows (words_of rows values)) (shape_of o) (costs_of o) report)
 
 -- what is told of the run from these values
 abbrev pub IsReplayed : NumberedProgram → List Node → List InputRow → Outlined → Reported → List ℤ → Told → Type 0

@@ -12,7 +12,7 @@ ghost use Rattle.flow_graph.specs.Numbering.{IsGraph};
 ghost use Rattle.scope_graph.specs.Placing.{plan_of};
 ghost use Rattle.report_soundness.specs.ReportTold.{costs_of};
 ghost use Rattle.report_objections.specs.Shaping.{IsShaped};
-ghost use Rattle.run_replays.specs.Replays.{TellsRun, TellsValues};
+ghost use Rattle.run_replays.specs.Replays.{TellsReplayedRun, TellsValues};
 
 use crate::allowed::{allowed, place_of_line};
 use crate::ending::{first_line, told_of};
@@ -78,7 +78,7 @@ fn told_of_run(
     requires words { AreWords rows.now words.now }
     requires shaped { IsShaped outline.now (reported report.now) }
     ensures { IfOk result
-        (λ told. TellsRun (seen checked.now) graph.now.nodes (start (seen checked.now) rows.now words.now)
+        (λ told. TellsReplayedRun (seen checked.now) graph.now.nodes (start (seen checked.now) rows.now words.now)
         (shape_of outline.now) (costs_of outline.now) (reported report.now) told) }
 {
     let visits = allowed(alloc, outline, &report.facts)?;

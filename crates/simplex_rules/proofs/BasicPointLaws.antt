@@ -13,7 +13,7 @@ use Rattle.simplex_rules.specs.Tableaus.{Generator, Held, Tableau, held_at, numb
 use Rattle.simplex_rules.specs.Promise.{own_of, basic_whole, bare_number, basic_number, basic_point, point_whole}
 use Rattle.simplex_rules.specs.Mixing.{along}
 use Rattle.simplex_rules.specs.MixingLaws.{product_above}
-use Rattle.simplex_rules.specs.Pivoting.{IsSound, AreZero}
+use Rattle.simplex_rules.specs.Pivoting.{IsSoundTableau, AreZero}
 use Rattle.simplex_rules.proofs.FirstLineLemmas.{value_placed, value_turned, value_costs}
 
 -- a line's value at these numbers, row by row
@@ -198,14 +198,14 @@ rows_met (r ∷ rs) s x w (suc k) right least positive zeros below =
 
 -- The theorem.
 
-sound_basis : (gs : List Generator) (w : ℕ) (t : Tableau) → IsSound gs w t → IsBasis w t.rows
+sound_basis : (gs : List Generator) (w : ℕ) (t : Tableau) → IsSoundTableau gs w t → IsBasis w t.rows
 sound_basis gs w t s = record { least = s.least; most = s.most; flat = s.flat; own = s.own; apart = s.apart }
 
-pub point_above : (gs : List Generator) (w : ℕ) (t : Tableau) → IsSound gs w t → pos 1 ≤ℤ point_whole t
+pub point_above : (gs : List Generator) (w : ℕ) (t : Tableau) → IsSoundTableau gs w t → pos 1 ≤ℤ point_whole t
 point_above gs w t s = whole_above w t.rows (entry t.objective 1) (sound_basis gs w t s) s.scale
 
 -- all first lines are 0 at the numbers read off
-all_zero : (gs : List Generator) (w : ℕ) (t : Tableau) → 2 ≤ w → IsSound gs w t
+all_zero : (gs : List Generator) (w : ℕ) (t : Tableau) → 2 ≤ w → IsSoundTableau gs w t
     → AreZero gs (basic_number t.rows (entry t.objective 1) (entry t.objective 0))
 all_zero gs w t least s =
     let b = sound_basis gs w t s in
@@ -216,7 +216,7 @@ all_zero gs w t least s =
     (along_basic w t.rows d v (entry t.objective) least b ∙ objective_sum_zero t.rows d v (entry t.objective) refl refl s.clear)
 
 -- the point is feasible
-pub point_meets : (p : Program) (t : Tableau) → 2 ≤ width_of p → IsSound (all_lines p) (width_of p) t
+pub point_meets : (p : Program) (t : Tableau) → 2 ≤ width_of p → IsSoundTableau (all_lines p) (width_of p) t
     → ((k : ℕ) → k < length t.rows → pos 0 ≤ℤ number_at t k 0) → MeetsAll p (basic_point t) (point_whole t)
 point_meets p t least s rights =
     let b = sound_basis (all_lines p) (width_of p) t s in
@@ -231,7 +231,7 @@ point_meets p t least s rights =
     }
 
 -- its worth is the dual value
-pub point_worth : (p : Program) (t : Tableau) → 2 ≤ width_of p → IsSound (all_lines p) (width_of p) t
+pub point_worth : (p : Program) (t : Tableau) → 2 ≤ width_of p → IsSoundTableau (all_lines p) (width_of p) t
     → entry t.objective 1 *ℤ worth p (basic_point t) ≡ entry t.objective 0 *ℤ point_whole t
 point_worth p t least s =
     let b = sound_basis (all_lines p) (width_of p) t s in

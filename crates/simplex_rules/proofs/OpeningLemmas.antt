@@ -13,7 +13,7 @@ use Rattle.simplex_rules.specs.Tableaus.{Tableau, cost_terms, slacks_from, all_l
 use Rattle.simplex_rules.specs.PivotRule.{opening_at, opened}
 use Rattle.simplex_rules.specs.Promise.{lines_of, coefficient_at, mark_at, cost_of, Opens}
 use Rattle.simplex_rules.specs.Mixing.{combination}
-use Rattle.simplex_rules.specs.Pivoting.{IsSound}
+use Rattle.simplex_rules.specs.Pivoting.{IsSoundTableau}
 use Rattle.simplex_rules.specs.FirstLineLaws.{cost_terms_here}
 use Rattle.simplex_rules.proofs.FirstTableauLemmas.{cost_past}
 use Rattle.simplex_rules.specs.FirstTableauLaws.{marked, own_at}
@@ -122,7 +122,7 @@ opened_rising p os t is o x = record {
 
 -- the opening makes a right tableau
 pub opening_right : (p : Program) (os : List (ℕ × ℕ)) → IsProgram p → Opens p os
-    → IsSound (all_lines p) (width_of p) (opened os (length os) (first_tableau p))
+    → IsSoundTableau (all_lines p) (width_of p) (opened os (length os) (first_tableau p))
     × IsRising (width_of p) (opened os (length os) (first_tableau p)).objective
 opening_right p os is o =
     let x = opened_is p os (length os) is o (omega arith) in

@@ -12,7 +12,7 @@ use Rattle.simplex_rules.specs.Lines.{spread}
 use Rattle.simplex_rules.specs.Tableaus.{Generator, Held, held_at, number_at, basic_at, placed, turned, slack_line, row_lines, next_slack, generators, width_from, cost_terms, objective_line, slacks_from, all_lines, width_of, held_of, first_tableau}
 use Rattle.simplex_rules.specs.Promise.{generator_at}
 use Rattle.simplex_rules.specs.Mixing.{combination, along}
-use Rattle.simplex_rules.specs.Pivoting.{IsSound, AreZero}
+use Rattle.simplex_rules.specs.Pivoting.{IsSoundTableau, AreZero}
 use Rattle.simplex_rules.specs.FirstLineLaws.{coefficient_placed_low, cost_terms_low}
 use Rattle.simplex_rules.specs.HandedOutLaws.{width_above}
 use Rattle.simplex_rules.specs.FirstTableau.{IsOwn, AreMarked}
@@ -174,7 +174,7 @@ zeros_of n w s (g ∷ gs) x m rows = (
   zeros_of n w (suc g.0) gs x m.2 (λ k below. rows (suc k) (omega arith)),
 )
 
-pub first_sound : (p : Program) → IsProgram p → IsSound (all_lines p) (width_of p) (first_tableau p)
+pub first_sound : (p : Program) → IsProgram p → IsSoundTableau (all_lines p) (width_of p) (first_tableau p)
 first_sound p is =
     let n = slacks_from p in
     let w = width_of p in

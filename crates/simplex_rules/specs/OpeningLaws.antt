@@ -9,7 +9,7 @@ use Rattle.simplex_rules.specs.Tableaus.{Generator, Held, Tableau, number_at, sl
 use Rattle.simplex_rules.specs.PivotRule.{pivoted, opening_at, opened}
 use Rattle.simplex_rules.specs.Promise.{generator_at, lines_of, coefficient_at, mark_at, cost_of, Opens}
 use Rattle.simplex_rules.specs.Mixing.{combination}
-use Rattle.simplex_rules.specs.Pivoting.{IsSound}
+use Rattle.simplex_rules.specs.Pivoting.{IsSoundTableau}
 use Rattle.simplex_rules.specs.PivotingLaws.{sound_pivot}
 use Rattle.simplex_rules.specs.StepLaws.{pivoted_is}
 use Rattle.simplex_rules.specs.FirstTableauLaws.{first_sound, held_count, held_is}
@@ -72,7 +72,7 @@ rows_apart p os i k o below below' d same =
 
 -- Before its pivot a row is a multiple of its first line.
 
-row_number : (p : Program) (t : Tableau) (r j : ℕ) → IsSound (all_lines p) (width_of p) t → r < length t.rows
+row_number : (p : Program) (t : Tableau) (r j : ℕ) → IsSoundTableau (all_lines p) (width_of p) t → r < length t.rows
     → number_at t r j ≡ combination (lines_of p) (number_at t r) j
 row_number p t r j s below = omega (arith, ints, (s.spans r below).is j, nothing_times (number_at t r 1) (cost_of p j) (s.flat r below))
 

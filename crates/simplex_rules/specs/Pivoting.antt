@@ -34,7 +34,7 @@ AreZero (g ∷ gs) x = (value_at g.1 x ≡ pos 0) × AreZero gs x
 
 -- The tableau has the same solutions as the generators, each of its lines is made of them, and its
 -- basic places are each in one row alone.
-pub record IsSound (gs : List Generator) (w : ℕ) (t : Tableau) : Type 0 where
+pub record IsSoundTableau (gs : List Generator) (w : ℕ) (t : Tableau) : Type 0 where
   pub spans : (k : ℕ) → k < length t.rows → IsSpanned gs (number_at t k)
   pub spans_objective : IsSpanned gs (entry t.objective)
   pub solves : (x : ℕ → ℤ) → ((k : ℕ) → k < length t.rows → along w (number_at t k) x ≡ pos 0)

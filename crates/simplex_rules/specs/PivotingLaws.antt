@@ -13,7 +13,7 @@ use Rattle.ipet_rows.specs.DualityLaws.{times_rising}
 use Rattle.simplex_rules.specs.Tableaus.{Generator, Tableau, number_at, basic_at}
 use Rattle.simplex_rules.specs.Mixing.{IsMixed, IsSpanned, along}
 use Rattle.simplex_rules.specs.MixingLaws.{along_times, spanned_mixed, spanned_times, zero_back, cancel_zero, cancel_above, cancel_at_least, product_above}
-use Rattle.simplex_rules.specs.Pivoting.{IsCleared, IsPivot, IsSound}
+use Rattle.simplex_rules.specs.Pivoting.{IsCleared, IsPivot, IsSoundTableau}
 
 times_nothing : (u z : ℤ) → z ≡ pos 0 → u *ℤ z ≡ pos 0
 times_nothing u z e = rw e (omega (arith, ints))
@@ -30,8 +30,8 @@ pub mixed_above : (g a b : ℤ) (f h f' : ℕ → ℤ) (j : ℕ) → IsMixed g a
 mixed_above g a b f h f' j m p q = cancel_above g (f' j) m.divisor (omega (arith, ints, m.is j, product_above a (f j) m.factor p, times_nothing b (h j) q))
 
 -- a pivot keeps a tableau sound
-pub sound_pivot : (gs : List Generator) (w : ℕ) (old new : Tableau) (r e : ℕ) (u : ℤ) → IsSound gs w old
-    → IsPivot old new r e u → 2 ≤ e → e < w → IsSound gs w new
+pub sound_pivot : (gs : List Generator) (w : ℕ) (old new : Tableau) (r e : ℕ) (u : ℤ) → IsSoundTableau gs w old
+    → IsPivot old new r e u → 2 ≤ e → e < w → IsSoundTableau gs w new
 sound_pivot gs w old new r e u s v least most =
     let h = number_at new r in
     let same : (k : ℕ) → k < length new.rows → k < length old.rows = λ k below. rw (← v.count) below in

@@ -17,7 +17,7 @@ use Rattle.simplex_rules.specs.Lines.{times_line, mixed, line_gcd, divided, clea
 use Rattle.simplex_rules.specs.Tableaus.{Generator, Held, Tableau, held_at, number_at, basic_at}
 use Rattle.simplex_rules.specs.PivotRule.{replaced, exchanged, pivoted}
 use Rattle.simplex_rules.specs.MixingLaws.{cancel_above, product_above}
-use Rattle.simplex_rules.specs.Pivoting.{IsCleared, IsPivot, IsSound}
+use Rattle.simplex_rules.specs.Pivoting.{IsCleared, IsPivot, IsSoundTableau}
 use Rattle.simplex_rules.specs.Steps.{freed}
 
 -- Divisions without rest.
@@ -133,7 +133,7 @@ exchanged_other (suc r) e h (k ∷ ks) zero below d = refl
 exchanged_other (suc r) e h (k ∷ ks) (suc i) below d = exchanged_other r e h ks i (omega arith) (λ (q : i ≡ r). d (ap suc q))
 
 -- the rule's step is a pivot
-pub pivoted_is : (gs : List Generator) (w : ℕ) (t : Tableau) (r e : ℕ) (u : ℤ) → IsSound gs w t → r < length t.rows
+pub pivoted_is : (gs : List Generator) (w : ℕ) (t : Tableau) (r e : ℕ) (u : ℤ) → IsSoundTableau gs w t → r < length t.rows
     → u *ℤ u ≡ pos 1
     → pos 1 ≤ℤ (u *ℤ number_at t r e) → IsPivot t (pivoted u r e t) r e u
 pivoted_is gs w t r e u s below unit above =

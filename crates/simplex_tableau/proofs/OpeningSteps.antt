@@ -6,7 +6,7 @@ use Rattle.std.proofs.lemmas.Option.{same_Some, none-some}
 use Rattle.ipet_rows.specs.Programs.{Row, Program, IsProgram, row_at}
 use Rattle.simplex_rules.specs.Tableaus.{Tableau, held_at, number_at, all_lines, width_of, first_tableau}
 use Rattle.simplex_rules.specs.PivotRule.{opening_at, opened, pivoted}
-use Rattle.simplex_rules.specs.Pivoting.{IsSound}
+use Rattle.simplex_rules.specs.Pivoting.{IsSoundTableau}
 use Rattle.simplex_rules.specs.OpeningLaws.{opened_is}
 use Rattle.simplex_rules.specs.OpeningPlaces.{next_line, line_place, opening_places, OpensRows}
 use Rattle.simplex_rules.specs.OpeningPlaceLaws.{opens_lines}
@@ -74,7 +74,7 @@ opening_there (x ∷ os) zero o there = same_Some x o there
 opening_there (x ∷ os) (suc i) o there = opening_there os i o there
 
 -- what a pivot asks holds of every sound tableau
-pub sound_can : (p : Program) (t : Tableau) (r : ℕ) → IsSound (all_lines p) (width_of p) t → r < length t.rows
+pub sound_can : (p : Program) (t : Tableau) (r : ℕ) → IsSoundTableau (all_lines p) (width_of p) t → r < length t.rows
     → CanPivot t r
 sound_can p t r sound below = record {
   own = λ k less other. sound.own k less;

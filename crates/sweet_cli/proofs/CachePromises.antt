@@ -11,8 +11,8 @@ use Rattle.flow_base.specs.Shelves.{ShelfState}
 use Rattle.flow_graph.specs.Numbering.{IsGraph}
 use Rattle.cost_table.specs.Laws.{RowsKeepTheRules}
 use Rattle.cached_runs.specs.Answers.{CacheLines, Told}
-use Rattle.cache_analysis.specs.Analyses.{IsAnalysis}
-use Rattle.cache_analysis.specs.Sound.{IsSound}
+use Rattle.cache_analysis.specs.Analyses.{IsCacheAnalysis}
+use Rattle.cache_analysis.specs.Sound.{IsSoundCache}
 use Rattle.command_plans.specs.Log.{Log, log_of}
 use Rattle.command_plans.specs.Work.{IsOnly}
 use Rattle.command_plans.specs.Readings.{IsMadeOf, both_made}
@@ -53,8 +53,8 @@ cache_told given before mid end program tables lines text first same later secon
 pub tells_cache : RowsKeepTheRules → (given : CacheWords) (told : Option Files) (before mid later : Log) (program : ScopedProgram) (tables : Tables) (lines : CacheLines) (text : List ℕ)
     → (laid_out_in given.program given.root).steps.Gives told before program mid → (tables_in program.expanded.program given.inputs given.costs).steps.Gives told mid tables later
     → IsMadeOf told before mid (file_name given.program ∷ []) (λ files. IsToldProgram given.program given.root files program.expanded.program) → text ≡ cache_text lines
-    → IsAnalysis program.expanded.program program.expanded.graph tables.rows (cache_shape given) tables.costs (policy_of given.merging) given.turns (Told lines)
-    → IsSound program.expanded.program program.expanded.graph tables.rows (cache_shape given) tables.costs lines → IsMadeOf told before later (names_read given.program given.inputs given.costs) (λ files. TellsCache given files text)
+    → IsCacheAnalysis program.expanded.program program.expanded.graph tables.rows (cache_shape given) tables.costs (policy_of given.merging) given.turns (Told lines)
+    → IsSoundCache program.expanded.program program.expanded.graph tables.rows (cache_shape given) tables.costs lines → IsMadeOf told before later (names_read given.program given.inputs given.costs) (λ files. TellsCache given files text)
 tells_cache law given told before mid later program tables lines text scopes read of shown found sound =
     let expanded = program.expanded in
     both_made told before mid later (file_name given.program ∷ []) (option_to_list given.inputs ++ option_to_list given.costs) (λ files. IsToldProgram given.program given.root files expanded.program)

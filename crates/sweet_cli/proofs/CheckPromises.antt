@@ -24,7 +24,7 @@ use Rattle.command_files.specs.Scopes.{ScopedProgram, scoped_in}
 use Rattle.command_files.specs.Tables.{Tables, tables_in}
 use Rattle.command_files.specs.ReportFiles.{report_in, IsToldReport}
 use Rattle.sweet_cli.specs.Words.{CheckWords}
-use Rattle.sweet_cli.specs.Check.{report_judged, checking, IsSoundOf, IsSoundTold, IsAccepted, accepted}
+use Rattle.sweet_cli.specs.Check.{report_judged, checking, IsAcceptedOf, IsSoundTold, IsAccepted, accepted}
 use Rattle.sweet_cli.proofs.Promises.{AreTabled, tables_made, told_graph, inputs_keep}
 
 -- the told file spells the report that was read
@@ -42,7 +42,7 @@ report_made file told before report after (bytes, log, read, (spelled, same)) =
 
 -- a report that was read of told files, and is sound
 pub sound_told : (file : List ℕ) (told : Option Files) (before after : Log) (program : NumberedProgram) (graph : GraphParts) (rows : List InputRow) (costs : CostTable) (report : Reported)
-    → (report_in file).steps.Gives told before report after → IsSoundOf program graph rows costs report → IsMadeOf told before after (file ∷ []) (λ files. IsSoundTold file files program graph rows costs)
+    → (report_in file).steps.Gives told before report after → IsAcceptedOf program graph rows costs report → IsMadeOf told before after (file ∷ []) (λ files. IsSoundTold file files program graph rows costs)
 sound_told file told before after program graph rows costs report read sound =
     widened told before after (file ∷ []) (λ files. IsToldReport file files report) (λ files. IsSoundTold file files program graph rows costs)
     (λ files of. record { report = report; told = of; sound = sound }) (report_made file told before report after read)

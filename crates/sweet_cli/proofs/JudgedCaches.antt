@@ -5,7 +5,7 @@ use Rattle.cost_table.specs.CostTables.{CostTable}
 use Rattle.worklist_rules.specs.declared.policy.Policy.{Policy}
 use Rattle.line_cache.specs.declared.shape.Shape.{Shape}
 use Rattle.cached_runs.specs.Answers.{CacheLines, CacheAnswer, Told, Unbounded as LeftIn}
-use Rattle.cache_analysis.specs.Analyses.{IsAnalysis, HasOneAnalysis}
+use Rattle.cache_analysis.specs.Analyses.{IsCacheAnalysis, HasOneAnalysis}
 use Rattle.command_plans.specs.Outcome.{Outcome, Unbounded, AreAlikeResults}
 use Rattle.command_plans.specs.Work.{IsOnly, alike}
 use Rattle.answer_texts.specs.ScopeLines.{left_line}
@@ -25,7 +25,7 @@ told_not lines scope e = cc
 module _ (one : HasOneAnalysis) (program : ScopedProgram) (rows : List InputRow) (costs : CostTable) (shape : Shape) (policy : Policy) (turns : ℕ) where
   -- what is found
   abbrev Finds : CacheAnswer → Type 0
-  Finds = IsAnalysis program.expanded.program program.expanded.graph rows shape costs policy turns
+  Finds = IsCacheAnalysis program.expanded.program program.expanded.graph rows shape costs policy turns
 
   same : (a b : CacheAnswer) → Finds a → Finds b → a ≡ b
   same a b h k = one program.expanded.program program.expanded.graph rows shape costs policy turns a b h k

@@ -27,7 +27,7 @@ use Rattle.command_plans.specs.Work.{IsOnly, alike}
 use Rattle.answer_texts.specs.NoLines.{objection_line}
 use Rattle.command_files.specs.Scopes.{ScopedProgram}
 use Rattle.command_files.specs.Seen.{IsOutlined}
-use Rattle.sweet_cli.specs.Check.{CheckMeans, accepted}
+use Rattle.sweet_cli.specs.Check.{AcceptMeans, accepted}
 
 -- ---- what the report is answered
 
@@ -45,17 +45,17 @@ module _ (one : HasOneCheck) (program : ScopedProgram) (rows : List InputRow) (c
 
   -- that nothing does is the only meaning
   pub accepted_only : (text : List ℕ) → Answered None → text ≡ accepted
-      → IsOnly (CheckMeans program rows costs report) (Ok text)
+      → IsOnly (AcceptMeans program rows costs report) (Ok text)
   accepted_only text h is = record { means = (h, is); only = only }
     where
-      only : (y : Result (List ℕ) Outcome) → CheckMeans program rows costs report y → AreAlikeResults (Ok text) y
+      only : (y : Result (List ℕ) Outcome) → AcceptMeans program rows costs report y → AreAlikeResults (Ok text) y
       only (Ok other) k = is ∙ sym k.1
       only (Err o) k = none-some k.objection (same None (Some k.objection) h k.first)
 
   -- and so is what does
   pub refused_only : (objection : Objection) (text : List ℕ) → Answered (Some objection)
       → text ≡ objection_line objection
-      → IsOnly (CheckMeans program rows costs report) (Err (record { cause = No; text = text }))
+      → IsOnly (AcceptMeans program rows costs report) (Err (record { cause = No; text = text }))
   refused_only objection text h is = record { means = record { objection = objection; first = h; line = here }; only = only }
     where
       o : Outcome
@@ -64,7 +64,7 @@ module _ (one : HasOneCheck) (program : ScopedProgram) (rows : List InputRow) (c
       here : o ≡ refused_by objection
       here = λ i. record { cause = No; text = is i }
 
-      only : (y : Result (List ℕ) Outcome) → CheckMeans program rows costs report y → AreAlikeResults (Err o) y
+      only : (y : Result (List ℕ) Outcome) → AcceptMeans program rows costs report y → AreAlikeResults (Err o) y
       only (Ok other) k = none-some objection (same None (Some objection) k.0 h)
       only (Err x) k = alike o x (here ∙ ap refused_by (same_Some objection k.objection (same (Some objection) (Some k.objection) h k.first)) ∙ sym k.line)
 

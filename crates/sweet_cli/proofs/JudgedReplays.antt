@@ -18,7 +18,7 @@ use Rattle.report_objections.specs.declared.objection.Objection.{Objection}
 use Rattle.report_objections.specs.Shaping.{IsShaped}
 use Rattle.report_soundness.specs.ReportTold.{costs_of, named_nodes}
 use Rattle.run_replays.specs.OneReplay.{Differ}
-use Rattle.run_replays.specs.Replays.{Told, Asks, objects, passes, IsOutside, IsReplayed, TellsValues, TellsRun}
+use Rattle.run_replays.specs.Replays.{Told, Asks, objects, passes, IsOutside, IsReplayed, TellsValues, TellsReplayedRun}
 use Rattle.command_plans.specs.Outcome.{Outcome, No, AreAlikeResults}
 use Rattle.command_plans.specs.Work.{IsOnly, alike}
 use Rattle.answer_texts.specs.NoLines.{holds_line, objection_line}
@@ -44,7 +44,7 @@ alike_back o other alike = record { shape = sym alike.shape; names = sym alike.n
 module _ (program : NumberedProgram) (nodes : List Node) (rows : List InputRow) (report : Reported) (values : List ℤ) (told : Told) where
   -- what is told of the values and of the run, by a shape and costs
   abbrev TellsBy : Shape → List ℕ → Type 0
-  TellsBy s costs = Asks (IsOutside rows values) (AreWithin rows values) (TellsRun program nodes (start program rows (words_of rows values)) s costs report) told
+  TellsBy s costs = Asks (IsOutside rows values) (AreWithin rows values) (TellsReplayedRun program nodes (start program rows (words_of rows values)) s costs report) told
 
   tells_along : (o other : Outlined) → AreAlike o other → TellsValues program nodes rows o report values told
       → TellsValues program nodes rows other report values told

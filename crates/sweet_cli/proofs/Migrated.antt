@@ -15,12 +15,12 @@ use Rattle.report_forms.specs.Migrating.{migrated}
 use Rattle.report_objections.specs.declared.objection.Objection.{Objection}
 use Rattle.report_objections.specs.Checks.{IsChecked, uncertified, unshaped, refused, applied}
 use Rattle.report_objections.specs.Shaping.{HasShape}
-use Rattle.sweet_cli.specs.Check.{IsSoundOf}
+use Rattle.sweet_cli.specs.Check.{IsAcceptedOf}
 
 -- ---- soundness
 
 module _ (program : NumberedProgram) (graph : GraphParts) (rows : List InputRow) (costs : CostTable) (report : Reported) where
-  pub migrated_sound : IsSoundOf program graph rows costs report → IsSoundOf program graph rows costs (migrated report)
+  pub migrated_sound : IsAcceptedOf program graph rows costs report → IsAcceptedOf program graph rows costs (migrated report)
   migrated_sound s = record {
     outline = s.outline;
     outline_is = s.outline_is;
@@ -31,7 +31,7 @@ module _ (program : NumberedProgram) (graph : GraphParts) (rows : List InputRow)
         record { trace = h.trace; outcome = h.outcome; runs = h.runs; facts = h.facts; alarm = h.alarm; count = h.count; path = h.path };
   }
 
-  pub sound_migrated : IsSoundOf program graph rows costs (migrated report) → IsSoundOf program graph rows costs report
+  pub sound_migrated : IsAcceptedOf program graph rows costs (migrated report) → IsAcceptedOf program graph rows costs report
   sound_migrated s = record {
     outline = s.outline;
     outline_is = s.outline_is;

@@ -23,7 +23,7 @@ use Rattle.ipet_rows.specs.Uses.{run_cost}
 use Rattle.program_analysis.specs.SoundLaws.{same_cost}
 use Rattle.report_soundness.specs.ReportTold.{costs_of}
 use Rattle.report_objections.specs.declared.objection.Objection.{Objection}
-use Rattle.run_replays.specs.Replays.{Told, Asks, objects, passes, TellsRun, stops, ends, fault_of, TellEnd}
+use Rattle.run_replays.specs.Replays.{Told, Asks, objects, passes, TellsReplayedRun, stops, ends, fault_of, TellEnd}
 use Rattle.command_plans.specs.Log.{Log, log_of}
 use Rattle.command_plans.specs.Readings.{IsMadeOf, both_made, one_made, still_made}
 use Rattle.command_plans.specs.Works.{Works}
@@ -77,7 +77,7 @@ module _ (program : NumberedProgram) (graph : GraphParts) (rows : List InputRow)
         path = subst (λ (c : ℕ). IfSome report.path_bound (λ b. c ≤ b.0)) (sym same) path.0;
       }
 
-  of_run : AreWithin rows values → TellsRun program graph.nodes (start program rows (words_of rows values)) (shape_of is.outline) (costs_of is.outline) report (Ok cost)
+  of_run : AreWithin rows values → TellsReplayedRun program graph.nodes (start program rows (words_of rows values)) (shape_of is.outline) (costs_of is.outline) report (Ok cost)
       → HoldsOfRun program graph rows costs report values cost
   of_run inside (stops e stop same) = absurd (not_told same)
   of_run inside (ends trace outcome runs within end) = of_end inside trace outcome runs end

@@ -11,12 +11,12 @@ use Rattle.domain_core.specs.Orders.{Order}
 use Rattle.domain_core.specs.Outlines.{Outlined, shape_of}
 use Rattle.flow_facts.specs.Reports.{Reported}
 use Rattle.program_machines.specs.NodeCosts.{HasCosts}
-use Rattle.program_checks.specs.Sound.{IsSound}
+use Rattle.program_checks.specs.Sound.{IsSoundAccepted}
 use Rattle.report_objections.specs.declared.objection.Objection.{Objection}
 use Rattle.report_objections.specs.Checks.{IsChecked, uncertified, unshaped, refused, applied}
 use Rattle.report_objections.specs.Shaping.{IsShaped}
 use Rattle.command_files.specs.Seen.{IsOutlined}
-use Rattle.sweet_cli.specs.Check.{IsSoundOf}
+use Rattle.sweet_cli.specs.Check.{IsAcceptedOf}
 
 no_objection : {objection : Objection} → ◌≡◌ {A = Option Objection} None (Some objection) → ⊥
 no_objection same = cc
@@ -32,8 +32,8 @@ shaped_of machine states stepper o report (applied cert w there shape done same)
 -- with the names, the costs and the scopes of the graph
 pub sound_of : (checked : CheckedParts) (graph : GraphParts) (rows : List InputRow) (costs : CostTable) (outline : Outlined) (report : Reported) → IsOutlined graph outline
     → IsShaped outline report
-    → HasCosts (seen checked) graph costs outline → IsSound (seen checked) graph rows (shape_of outline) costs report
-    → IsSoundOf (seen checked) graph rows costs report
+    → HasCosts (seen checked) graph costs outline → IsSoundAccepted (seen checked) graph rows (shape_of outline) costs report
+    → IsAcceptedOf (seen checked) graph rows costs report
 sound_of checked graph rows costs outline report outlined shaped priced sound = record {
   outline = outline;
   outline_is = outlined.outline_is;

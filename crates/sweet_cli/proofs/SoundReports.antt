@@ -19,7 +19,7 @@ use Rattle.program_machines.specs.NodeCosts.{node_cost}
 use Rattle.report_soundness.specs.Certified.{with_certificate, printed_as}
 use Rattle.program_analysis.specs.TwinMachines.{IsProgramOf}
 use Rattle.program_analysis.specs.BoundedAnalyses.{IsBoundedReport, IsPrintedReport}
-use Rattle.program_analysis.specs.BoundedSound.{IsSound, FoundReportsAreRight}
+use Rattle.program_analysis.specs.BoundedSound.{IsSoundByBounds, FoundReportsAreRight}
 use Rattle.sweet_cli.specs.Analyse.{IsSoundOf, HasCertificate}
 
 -- what nodes cost, by the parts of the program
@@ -45,7 +45,7 @@ sound_of law program graph rows costs policy turns pivots report h =
         scopes = ap (λ (r : Reported). r.scopes) h.bounded ∙ ap (λ (r : Reported). r.scopes) a.found.told;
       };
       costs_are = a.costs_are;
-      sound = subst (λ (p : NumberedProgram). IsSound p graph rows (shape_of a.outline) costs report) a.program_is (right.sound costs priced);
+      sound = subst (λ (p : NumberedProgram). IsSoundByBounds p graph rows (shape_of a.outline) costs report) a.program_is (right.sound costs priced);
       within = right.within;
       least = right.least;
     }

@@ -30,7 +30,7 @@ use Rattle.program_analysis.specs.Answers.{Unbounded as LeftIn}
 use Rattle.report_soundness.specs.Bounded.{IsWithinCount, IsLeastOf}
 use Rattle.program_analysis.specs.ProgramAnalyses.{IsAnalysis}
 use Rattle.program_analysis.specs.BoundedAnalyses.{IsPrintedReport}
-use Rattle.program_analysis.specs.BoundedSound.{IsSound}
+use Rattle.program_analysis.specs.BoundedSound.{IsSoundByBounds}
 use Rattle.command_plans.specs.Outcome.{Outcome, Unbounded}
 use Rattle.command_plans.specs.Work.{Work, judged, done, ◌>>=◌}
 use Rattle.program_files.specs.Told.{IsToldProgram}
@@ -77,7 +77,7 @@ pub record IsSoundOf (program : NumberedProgram) (graph : GraphParts) (rows : Li
   pub outline_is : IsOutlineOf (plan_of graph) (shape_of outline)
   pub legend : HasLegend graph outline report
   pub costs_are : HasCosts program graph costs outline
-  pub sound : IsSound program graph rows (shape_of outline) costs report
+  pub sound : IsSoundByBounds program graph rows (shape_of outline) costs report
   pub within : IsWithinCount report
   pub least : IsLeastOf outline report
 

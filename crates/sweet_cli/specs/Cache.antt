@@ -17,8 +17,8 @@ use Rattle.cost_table.specs.CostTables.{CostTable}
 use Rattle.worklist_rules.specs.declared.policy.Policy.{Policy}
 use Rattle.line_cache.specs.declared.shape.Shape.{Shape}
 use Rattle.cached_runs.specs.Answers.{CacheLines, Told, Unbounded as LeftIn}
-use Rattle.cache_analysis.specs.Analyses.{IsAnalysis}
-use Rattle.cache_analysis.specs.Sound.{IsSound}
+use Rattle.cache_analysis.specs.Analyses.{IsCacheAnalysis}
+use Rattle.cache_analysis.specs.Sound.{IsSoundCache}
 use Rattle.command_plans.specs.Outcome.{Outcome, Unbounded}
 use Rattle.command_plans.specs.Work.{Work, judged, done, ◌>>=◌}
 use Rattle.program_files.specs.Told.{IsToldProgram}
@@ -40,14 +40,14 @@ pub record IsCacheLeftAt (program : ScopedProgram) (rows : List InputRow) (costs
     (policy : Policy)
     (turns : ℕ) (outcome : Outcome) : Type 0 where
   pub scope : ℕ
-  pub left : IsAnalysis program.expanded.program program.expanded.graph rows shape costs policy turns (LeftIn scope)
+  pub left : IsCacheAnalysis program.expanded.program program.expanded.graph rows shape costs policy turns (LeftIn scope)
   pub line : outcome ≡ record { cause = Unbounded; text = left_line program.expanded.graph program.scoped.scopes scope }
 
 -- what the exploration tells of the cache, or that places are left
 abbrev pub CacheMeans : ScopedProgram → List InputRow → CostTable → Shape → Policy → ℕ → Result CacheLines Outcome
     → Type 0
 CacheMeans program rows costs shape policy turns (Ok lines) =
-    IsAnalysis program.expanded.program program.expanded.graph rows shape costs policy turns (Told lines)
+    IsCacheAnalysis program.expanded.program program.expanded.graph rows shape costs policy turns (Told lines)
 CacheMeans program rows costs shape policy turns (Err outcome) = IsCacheLeftAt program rows costs shape policy turns outcome
 
 unfoldable pub caching : CacheWords → Work (List ℕ)
@@ -73,8 +73,8 @@ pub record TellsCache (given : CacheWords) (files : Files) (text : List ℕ) : T
   pub rows_keep : KeepInputs program rows
   pub costs_told : AreCosts given.costs files program costs
   pub shown : text ≡ cache_text lines
-  pub found : IsAnalysis program graph rows (cache_shape given) costs (policy_of given.merging) given.turns (Told lines)
-  pub sound : IsSound program graph rows (cache_shape given) costs lines
+  pub found : IsCacheAnalysis program graph rows (cache_shape given) costs (policy_of given.merging) given.turns (Told lines)
+  pub sound : IsSoundCache program graph rows (cache_shape given) costs lines
 
 abbrev pub cache : CacheWords → Task
 cache given = record { work = caching given; names = names_read given.program given.inputs given.costs; Promise = TellsCache given }

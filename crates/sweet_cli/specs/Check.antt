@@ -1,9 +1,9 @@
 -- `check FILE REPORT`: a report of unknown origin is accepted, or the first thing that speaks against it is told.
 --   IsRefused program rows costs report outcome   something speaks against the report, and the outcome tells the first
---   CheckMeans program rows costs report meaning  nothing speaks against the report, or this does
+--   AcceptMeans program rows costs report meaning  nothing speaks against the report, or this does
 --   report_judged file program tables   the report is read and judged
 --   checking given                the order of work
---   IsSoundOf program graph rows costs report   the report is sound for the program, with the names, the costs and the scopes of its graph
+--   IsAcceptedOf program graph rows costs report   the report is sound for the program, with the names, the costs and the scopes of its graph
 --   IsSoundTold file files program graph rows costs   the told file spells a report that is so
 --   IsAccepted given files text   the promise: the report of the file is sound for the program that the file gives
 --   check given                   the task
@@ -21,7 +21,7 @@ use Rattle.flow_facts.specs.Reports.{Reported}
 use Rattle.program_machines.specs.NodeCosts.{HasCosts}
 use Rattle.report_objections.specs.declared.objection.Objection.{Objection}
 use Rattle.program_checks.specs.Checking.{IsCheckOf}
-use Rattle.program_checks.specs.Sound.{IsSound}
+use Rattle.program_checks.specs.Sound.{IsSoundAccepted}
 use Rattle.command_plans.specs.Outcome.{Outcome, No}
 use Rattle.command_plans.specs.Work.{Work, judged, ◌>>=◌}
 use Rattle.program_files.specs.Told.{IsToldProgram}
@@ -45,16 +45,16 @@ pub record IsRefused (program : ScopedProgram) (rows : List InputRow) (costs : C
   pub line : outcome ≡ record { cause = No; text = objection_line objection }
 
 -- nothing speaks against the report, or this does
-abbrev pub CheckMeans : ScopedProgram → List InputRow → CostTable → Reported → Result (List ℕ) Outcome → Type 0
-CheckMeans program rows costs report (Ok text) =
+abbrev pub AcceptMeans : ScopedProgram → List InputRow → CostTable → Reported → Result (List ℕ) Outcome → Type 0
+AcceptMeans program rows costs report (Ok text) =
     IsCheckOf program.expanded.program program.expanded.graph rows costs report None × (text ≡ accepted)
-CheckMeans program rows costs report (Err outcome) = IsRefused program rows costs report outcome
+AcceptMeans program rows costs report (Err outcome) = IsRefused program rows costs report outcome
 
 -- the report is read and judged
 unfoldable pub report_judged : List ℕ → ScopedProgram → Tables → Work (List ℕ)
 report_judged file program tables = do
   report ← report_in file
-  judged (CheckMeans program tables.rows tables.costs report)
+  judged (AcceptMeans program tables.rows tables.costs report)
 
 unfoldable pub checking : CheckWords → Work (List ℕ)
 checking given = do
@@ -63,20 +63,20 @@ checking given = do
   report_judged given.report program tables
 
 -- the report is sound for the program, with the names, the costs and the scopes of its graph
-pub record IsSoundOf (program : NumberedProgram) (graph : GraphParts) (rows : List InputRow) (costs : CostTable)
+pub record IsAcceptedOf (program : NumberedProgram) (graph : GraphParts) (rows : List InputRow) (costs : CostTable)
     (report : Reported) : Type 0 where
   pub outline : Outlined
   pub outline_is : IsOutlineOf (plan_of graph) (shape_of outline)
   pub legend : HasLegend graph outline report
   pub costs_are : HasCosts program graph costs outline
-  pub sound : IsSound program graph rows (shape_of outline) costs report
+  pub sound : IsSoundAccepted program graph rows (shape_of outline) costs report
 
 -- the told file spells a report that is so
 pub record IsSoundTold (file : List ℕ) (files : Files) (program : NumberedProgram) (graph : GraphParts)
     (rows : List InputRow) (costs : CostTable) : Type 0 where
   pub report : Reported
   pub told : IsToldReport file files report
-  pub sound : IsSoundOf program graph rows costs report
+  pub sound : IsAcceptedOf program graph rows costs report
 
 -- the report that the told file spells is sound for the program that the told file gives, with inputs and costs as the
 -- told files say: every run from inputs inside the ranges ends, meets each fact, has an alarm for its fault, and costs

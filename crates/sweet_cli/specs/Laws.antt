@@ -32,7 +32,7 @@ use Rattle.command_files.specs.Tables.{Tables, tables_in, AreInputs}
 use Rattle.command_files.specs.ReportFiles.{most_report_bytes}
 use Rattle.sweet_cli.specs.Words.{AnalyseWords, CheckWords, Analyse, Check, command_of}
 use Rattle.sweet_cli.specs.Analyse.{analysing, policy_of}
-use Rattle.sweet_cli.specs.Check.{IsSoundOf, accepted}
+use Rattle.sweet_cli.specs.Check.{IsAcceptedOf, accepted}
 use Rattle.sweet_cli.specs.Table.{task_of}
 
 -- whatever was read before, told files have one answer to the words, but for a line that gives one example of several;
@@ -105,6 +105,6 @@ RunsOfCHaveTheirOwnOutcome = (file root : List ℕ) (inputs : Option (List ℕ))
 -- alike
 abbrev pub MigratedReportsSayTheSame : Type 0
 MigratedReportsSayTheSame = (program : NumberedProgram) (graph : GraphParts) (rows : List InputRow) (costs : CostTable) (report : Reported)
-    → (IsSoundOf program graph rows costs report ↔ IsSoundOf program graph rows costs (migrated report))
+    → (IsAcceptedOf program graph rows costs report ↔ IsAcceptedOf program graph rows costs (migrated report))
     × ((answer : Option Objection)
     → IsCheckOf program graph rows costs report answer ↔ IsCheckOf program graph rows costs (migrated report) answer)

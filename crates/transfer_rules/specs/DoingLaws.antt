@@ -13,7 +13,7 @@ use Rattle.alf_ops.specs.declared.history.RunFault.{RunFault}
 use Rattle.alf_ops.specs.declared.history.FrameShape.{FrameShape}
 use Rattle.alf_ops.specs.declared.history.RunEvent.{RunEvent}
 use Rattle.alf_ops.specs.Values.{FitsValue, size_of}
-use Rattle.alf_ops.specs.Histories.{Address, address_of, store, stored as stored_run, IsSound}
+use Rattle.alf_ops.specs.Histories.{Address, address_of, store, stored as stored_run, IsSoundHistory}
 use Rattle.alf_program.specs.Tree.{NumberedExpression}
 use Rattle.alf_check.specs.declared.rows.FrameRow.{FrameRow}
 use Rattle.alf_check.specs.CheckedPrograms.{NumberedStatement, Null, Store}
@@ -131,10 +131,10 @@ module _ (Sharp : Type 0) (rows : List FrameShape) where
   some_possible [] a some = absurd (some refl)
   some_possible (cell ∷ cells) a some = refl
 
-  stored_sound : (history after : List RunEvent) (value : Value) (r : Result Address RunFault) → IsSound history
-      → FitsValue (size_of value) value → stored_run history value r ≡ Ok after → IsSound after
+  stored_sound : (history after : List RunEvent) (value : Value) (r : Result Address RunFault) → IsSoundHistory history
+      → FitsValue (size_of value) value → stored_run history value r ≡ Ok after → IsSoundHistory after
   stored_sound history after value (Ok address) sound fits e =
-      let same : RunEvent.Store address.frame address.offset (size_of value) value ∷ history ≡ after = cc in subst IsSound same (fits, sound)
+      let same : RunEvent.Store address.frame address.offset (size_of value) value ∷ history ≡ after = cc in subst IsSoundHistory same (fits, sound)
   stored_sound history after value (Err fault) sound fits e = cc
 
   -- a store through an address that is covered is told, at the value's own size

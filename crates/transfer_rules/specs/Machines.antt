@@ -9,7 +9,7 @@
 --   run_machine program graph rows  the machine
 use Rattle.std.specs.Prelude.{◌≡◌, ◌↔◌, ◌<◌, ℕ, true, List, map, length, Option}
 use Rattle.alf_ops.specs.declared.history.RunEvent.{RunEvent}
-use Rattle.alf_ops.specs.Histories.{IsSound}
+use Rattle.alf_ops.specs.Histories.{IsSoundHistory}
 use Rattle.alf_check.specs.declared.rows.InputRow.{InputRow}
 use Rattle.alf_check.specs.CheckedPrograms.{NumberedProgram}
 use Rattle.alf_check.specs.Kept.{IsKept}
@@ -33,12 +33,12 @@ use Rattle.transfer_rules.specs.Stepping.{Goals, step_at, goals_left}
 
 -- the memory stands for the history
 pub record CoversHistory (program : NumberedProgram) (m : Mem abstract_sets) (history : List RunEvent) : Type 0 where
-  pub sound : IsSound history
+  pub sound : IsSoundHistory history
   pub covers : MemCovers abstract_sets (frames_of program) m history
 
 -- and for this one alone
 pub record SharpFor (program : NumberedProgram) (m : Mem abstract_sets) (history : List RunEvent) : Type 0 where
-  pub sound : IsSound history
+  pub sound : IsSoundHistory history
   pub sharp : MemSharp abstract_sets (frames_of program) m history
 
 -- the active frames are the global ones and those of the functions on the path

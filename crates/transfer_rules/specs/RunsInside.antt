@@ -4,7 +4,7 @@
 --   StorePromises            what is promised of the stores of starts and calls
 use Rattle.std.proofs.Common.{List}
 use Rattle.alf_ops.specs.declared.history.FrameShape.{FrameShape}
-use Rattle.alf_ops.specs.Histories.{IsSound}
+use Rattle.alf_ops.specs.Histories.{IsSoundHistory}
 use Rattle.alf_check.specs.CheckedPrograms.{NumberedProgram}
 use Rattle.alf_check.specs.Kept.{IsKept}
 use Rattle.alf_runs.specs.Steps.{Moment, At, Over}
@@ -19,7 +19,7 @@ InsideAt rows (Over outcome) = Unit {0}
 
 -- at a node each store is of a value of its size
 abbrev pub SoundAt : Moment → Type 0
-SoundAt (At node history) = IsSound history
+SoundAt (At node history) = IsSoundHistory history
 SoundAt (Over outcome) = Unit {0}
 
 -- what is promised of the stores of starts and calls

@@ -10,7 +10,7 @@ use Rattle.alf_ops.specs.declared.history.RunFault.{RunFault}
 use Rattle.alf_ops.specs.declared.history.FrameShape.{FrameShape}
 use Rattle.alf_ops.specs.declared.history.RunEvent.{RunEvent}
 use Rattle.alf_ops.specs.declared.history.RunEvent.TheVariants.{Enter, Leave}
-use Rattle.alf_ops.specs.Histories.{store, IsSound}
+use Rattle.alf_ops.specs.Histories.{store, IsSoundHistory}
 use Rattle.alf_ops.specs.Pointers.{operands}
 use Rattle.alf_program.specs.Tree.{NumberedExpression}
 use Rattle.alf_check.specs.declared.rows.InitRow.{InitRow}
@@ -64,12 +64,12 @@ statements_ok rows (s ∷ ss) (Ok history) inside = statements_ok rows ss (after
 
 -- ---- the history before stores
 
-before_inits : (inits : List InitRow) (history : List RunEvent) → IsSound (with_inits inits history) → IsSound history
+before_inits : (inits : List InitRow) (history : List RunEvent) → IsSoundHistory (with_inits inits history) → IsSoundHistory history
 before_inits [] history sound = sound
 before_inits (init ∷ inits) history sound = (before_inits inits _ sound).1
 
 before_arguments : (frames : List ℕ) (values : List Value) (history : List RunEvent)
-    → IsSound (with_arguments frames values history) → IsSound history
+    → IsSoundHistory (with_arguments frames values history) → IsSoundHistory history
 before_arguments [] values history sound = sound
 before_arguments (frame ∷ frames) [] history sound = sound
 before_arguments (frame ∷ frames) (value ∷ values) history sound = (before_arguments frames values _ sound).1
@@ -119,8 +119,8 @@ module _ (promises : StorePromises) (program : NumberedProgram) (keeps : IsKept 
   return_inside path history (Err fault) inside = tt
 
   -- the history that a function is entered from
-  before_call : (f : ℕ) (values : List Value) (history : List RunEvent) → IsSound (entered program f values history)
-      → IsSound history
+  before_call : (f : ℕ) (values : List Value) (history : List RunEvent) → IsSoundHistory (entered program f values history)
+      → IsSoundHistory history
   before_call f values history sound = before_arguments (args_at program f) values (Enter f ∷ history) (before_inits (inits_at program f) _ sound)
 
   call_inside : (path : List ℕ) (b f : ℕ) (args : List NumberedExpression) (result : Option (ℕ × ℕ)) (next : ℕ) (history : List RunEvent)
@@ -170,7 +170,7 @@ module _ (promises : StorePromises) (program : NumberedProgram) (keeps : IsKept 
 
   -- a step from inside leads inside
   pub steps_inside : (node next : Node) (history later : List RunEvent) → IsPlaced program node
-      → IsInside (frames_of program) history → IsSound later
+      → IsInside (frames_of program) history → IsSoundHistory later
       → step program (At node history) ≡ At next later → IsInside (frames_of program) later
   steps_inside node next history later placed inside sound steps =
       subst (InsideAt (frames_of program)) steps (node_inside node.path node.block history placed.function inside (subst SoundAt (sym steps) sound))

@@ -7,7 +7,7 @@ use Rattle.std.specs.List.{AllZip}
 use Rattle.alf_ops.specs.declared.history.Value.{Value}
 use Rattle.alf_ops.specs.declared.history.FrameShape.{FrameShape}
 use Rattle.alf_ops.specs.declared.history.RunEvent.{RunEvent}
-use Rattle.alf_ops.specs.Histories.{IsSound}
+use Rattle.alf_ops.specs.Histories.{IsSoundHistory}
 use Rattle.pointer_rules.specs.AbstractValues.{AbstractValue, Covers}
 use Rattle.memory_rules.specs.ValueSets.{OnlyCovers}
 use Rattle.memory_rules.specs.Memories.{Mem, MemCovers, MemSharp, MemSized}
@@ -16,7 +16,7 @@ use Rattle.memory_rules.specs.AbstractSets.{abstract_sets}
 -- the memory covers the history, and where Sharp holds it is sharp for it
 pub record Stands (Sharp : Type 0) (rows : List FrameShape) (m : Mem abstract_sets)
     (history : List RunEvent) : Type 0 where
-  pub sound : IsSound history
+  pub sound : IsSoundHistory history
   pub sized : MemSized abstract_sets m
   pub covers : MemCovers abstract_sets rows m history
   pub sharp : Sharp → MemSharp abstract_sets rows m history

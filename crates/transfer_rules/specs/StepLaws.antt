@@ -16,7 +16,7 @@ use Rattle.alf_ops.specs.declared.history.FrameShape.{FrameShape}
 use Rattle.alf_ops.specs.declared.history.RunEvent.{RunEvent}
 use Rattle.alf_ops.specs.declared.history.RunEvent.TheVariants.{Leave}
 use Rattle.alf_ops.specs.Values.{FitsValue, bits_of}
-use Rattle.alf_ops.specs.Histories.{store, IsSound}
+use Rattle.alf_ops.specs.Histories.{store, IsSoundHistory}
 use Rattle.alf_ops.specs.Pointers.{operands, before as before_run}
 use Rattle.alf_program.specs.Tree.{NumberedExpression}
 use Rattle.alf_check.specs.declared.rows.FrameRow.{FrameRow}
@@ -162,7 +162,7 @@ same_Ok vs ws e = cc
 
 -- the values of arguments fit their frames
 arguments_fit : (table : List FrameRow) (rows : List FrameShape) (history : List RunEvent) (k : ℕ) → ValueHasSize
-    → IsSound history → (args : List ℕ) (es : List NumberedExpression) (values : List Value)
+    → IsSoundHistory history → (args : List ℕ) (es : List NumberedExpression) (values : List Value)
     → AllZip (ArgumentKeeps table k) args es → operands (map (value_of rows history) es) ≡ Ok values → AllZip (ArgumentFits table k) args values
 arguments_fit table rows history k sizes_are sound [] [] values keep e = subst (AllZip (ArgumentFits table k) []) (same_Ok [] values e) tt
 arguments_fit table rows history k sizes_are sound [] (e ∷ es) values keep is = absurd keep

@@ -11,7 +11,7 @@ use Rattle.alf_ops.specs.declared.history.Value.{Value}
 use Rattle.alf_ops.specs.declared.history.RunFault.{RunFault}
 use Rattle.alf_ops.specs.declared.history.FrameShape.{FrameShape}
 use Rattle.alf_ops.specs.declared.history.RunEvent.{RunEvent}
-use Rattle.alf_ops.specs.Histories.{IsSound}
+use Rattle.alf_ops.specs.Histories.{IsSoundHistory}
 use Rattle.alf_program.specs.Tree.{NumberedExpression}
 use Rattle.alf_check.specs.declared.rows.FrameRow.{FrameRow}
 use Rattle.alf_check.specs.declared.rows.InputRow.{InputRow}
@@ -56,12 +56,12 @@ OnlyTells r (Err fault) = (r.left ≡ None) × (r.faults ≡ with_fault no_fault
 -- an expression over a memory that covers the history
 abbrev pub ExpressionsTell : Type 0
 ExpressionsTell = (table : List FrameRow) (rows : List FrameShape) (m : Mem abstract_sets) (history : List RunEvent) (k size : ℕ) (e : NumberedExpression) → HasSize table k size e
-    → IsSound history → MemSized abstract_sets m → MemCovers abstract_sets rows m history → Tells (value_at rows m e) (value_of rows history e)
+    → IsSoundHistory history → MemSized abstract_sets m → MemCovers abstract_sets rows m history → Tells (value_at rows m e) (value_of rows history e)
 
 -- and over a memory that is sharp for it
 abbrev pub ExpressionsTellOnly : Type 0
 ExpressionsTellOnly = (table : List FrameRow) (rows : List FrameShape) (m : Mem abstract_sets) (history : List RunEvent) (k size : ℕ) (e : NumberedExpression) → HasSize table k size e
-    → IsSound history → MemSized abstract_sets m → MemSharp abstract_sets rows m history → OnlyTells (value_at rows m e) (value_of rows history e)
+    → IsSoundHistory history → MemSized abstract_sets m → MemSharp abstract_sets rows m history → OnlyTells (value_at rows m e) (value_of rows history e)
 
 -- ---- the machine
 

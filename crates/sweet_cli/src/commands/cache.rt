@@ -9,7 +9,7 @@ ghost use Rattle.line_cache.specs.Lines.{IsShape, notes_of};
 ghost use Rattle.code_layout.specs.Layouts.{all_statements, most_statements, parts_of};
 ghost use Rattle.cached_runs.specs.Answers.{lines_of};
 ghost use Rattle.cache_analysis.specs.CodeAccesses.{HasCodeNotes};
-ghost use Rattle.cache_analysis.specs.Sound.{IsSound};
+ghost use Rattle.cache_analysis.specs.Sound.{IsSoundCache};
 ghost use Rattle.command_plans.specs.Works.{Works, Judges};
 ghost use Rattle.command_files.specs.Seen.{IsOutlined, scoped_of};
 ghost use Rattle.sweet_cli.specs.Words.{IsCacheWithin, cache_meant};
@@ -77,7 +77,7 @@ fn cached_in(
     ensures means { Judges
         (CacheMeans (scoped_of program) tables.now.rows.items tables.now.costs shape (policy_of merging)
         turns) lines_of result }
-    ensures sound { IfOk result (λ lines. IsSound (seen program.expanded.checked) program.expanded.graph
+    ensures sound { IfOk result (λ lines. IsSoundCache (seen program.expanded.checked) program.expanded.graph
         tables.now.rows.items shape tables.now.costs (lines_of lines)) }
 {
     let program = priced(program, &tables.costs);
@@ -132,7 +132,7 @@ fn explored(
     ensures means { Judges
         (CacheMeans (scoped_of program.now) tables.now.rows.items tables.now.costs shape policy turns)
         lines_of result }
-    ensures sound { IfOk result (λ lines. IsSound (seen program.now.expanded.checked) program.now.expanded.graph
+    ensures sound { IfOk result (λ lines. IsSoundCache (seen program.now.expanded.checked) program.now.expanded.graph
         tables.now.rows.items shape tables.now.costs (lines_of lines)) }
 {
     let expanded = &program.expanded;

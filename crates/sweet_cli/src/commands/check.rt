@@ -11,7 +11,7 @@ ghost use Rattle.command_plans.specs.Works.{Works, Judges, OverRead};
 ghost use Rattle.command_files.specs.Seen.{IsOutlined, scoped_of, tables_of};
 ghost use Rattle.sweet_cli.specs.Words.{check_meant};
 ghost use Rattle.sweet_cli.specs.Task.{IsPromised};
-ghost use Rattle.sweet_cli.specs.Check.{check, CheckMeans, IsSoundOf, IsSoundTold, accepted, checking};
+ghost use Rattle.sweet_cli.specs.Check.{check, AcceptMeans, IsAcceptedOf, IsSoundTold, accepted, checking};
 ghost use Rattle.sweet_cli.specs.Check.{report_judged};
 
 use crate::commands::analyse::priced;
@@ -79,9 +79,9 @@ fn judged(
     requires rows { KeepInputs (seen program.expanded.checked) tables.now.rows.items }
     requires outline { IsOutlined program.expanded.graph program.outline }
     requires scaled { IsScaled (reported report.now) }
-    ensures means { Judges (CheckMeans (scoped_of program) tables.now.rows.items tables.now.costs
+    ensures means { Judges (AcceptMeans (scoped_of program) tables.now.rows.items tables.now.costs
         (reported report.now)) (λ text. text.items) result }
-    ensures sound { IfOk result (λ text. IsSoundOf (seen program.expanded.checked) program.expanded.graph
+    ensures sound { IfOk result (λ text. IsAcceptedOf (seen program.expanded.checked) program.expanded.graph
         tables.now.rows.items tables.now.costs (reported report.now)) }
 {
     let program = priced(program, &tables.costs);
@@ -101,9 +101,9 @@ fn answered(
     requires priced { (other : NumberedProgram) → IsGraph other program.now.expanded.graph
         → HasCosts other program.now.expanded.graph tables.now.costs program.now.outline }
     requires scaled { IsScaled (reported report.now) }
-    ensures means { Judges (CheckMeans (scoped_of program.now) tables.now.rows.items tables.now.costs
+    ensures means { Judges (AcceptMeans (scoped_of program.now) tables.now.rows.items tables.now.costs
         (reported report.now)) (λ text. text.items) result }
-    ensures sound { IfOk result (λ text. IsSoundOf (seen program.now.expanded.checked)
+    ensures sound { IfOk result (λ text. IsAcceptedOf (seen program.now.expanded.checked)
         program.now.expanded.graph tables.now.rows.items tables.now.costs (reported report.now)) }
 {
     let expanded = &program.expanded;

@@ -3,7 +3,7 @@ use Rattle.std.proofs.Common.{IfOk, subst}
 use Rattle.memory_model.specs.SeenOrders.{parts_order}
 use Rattle.abstract_step.specs.Steppers.{StepperParts, stepped_by}
 use Rattle.cached_runs.specs.Answers.{answer_of, IfTold}
-use Rattle.cached_runs.specs.CachedRuns.{IsFound, IsSound as IsSoundSystem}
+use Rattle.cached_runs.specs.CachedRuns.{IsFound, AreSoundLines as IsSoundSystem}
 use Rattle.cache_analysis.proofs.Explored.{analysed, told_sound}
 use Rattle.cache_analysis.proofs.exploring.analyse.Goals as goal
 

@@ -3,7 +3,7 @@ use Rattle.flow_facts.specs.Reports.{reported}
 use Rattle.memory_model.specs.SeenOrders.{parts_order}
 use Rattle.abstract_step.specs.Steppers.{StepperParts, stepped_by}
 use Rattle.report_objections.specs.Checks.{IsChecked}
-use Rattle.report_objections.specs.Accepted.{IsSoundReport}
+use Rattle.report_objections.specs.Accepted.{IsSoundWithPath}
 use Rattle.program_checks.proofs.SoundLaws.{sound_report}
 use Rattle.program_checks.proofs.checking.objection_to_report.Goals as goal
 
@@ -15,4 +15,4 @@ pub returns-clause-sound : goal.returns-clause-sound
 returns-clause-sound c =
     let parts : StepperParts = record { checked = c.args.checked.now; graph = c.args.graph.now; rows = c.args.rows.now } in
     λ none costs priced. sound_report c.sound_reports_are_sound_for_the_program.ensures parts c.args.outline.now costs (reported c.args.report.now) c.keeps.ensures c.requires.graph priced
-    (subst (λ (s : StepperParts). IsSoundReport (stepped_by s).system c.args.outline.now (reported c.args.report.now)) c.in_ok-stepper.ensures (c.in_ok-objection.ensures.sound none))
+    (subst (λ (s : StepperParts). IsSoundWithPath (stepped_by s).system c.args.outline.now (reported c.args.report.now)) c.in_ok-stepper.ensures (c.in_ok-objection.ensures.sound none))

@@ -5,7 +5,7 @@ use Rattle.alf_runs.specs.Starts.{start}
 use Rattle.domain_core.specs.Outlines.{shape_of}
 use Rattle.flow_facts.specs.Reports.{reported}
 use Rattle.report_soundness.specs.ReportTold.{costs_of}
-use Rattle.run_replays.specs.Replays.{TellsRun, objects, passes}
+use Rattle.run_replays.specs.Replays.{TellsReplayedRun, objects, passes}
 use Rattle.run_replays.proofs.replaying.replay.Goals as goal
 
 pub returns-in-Some : goal.returns-in-Some
@@ -15,5 +15,5 @@ pub returns : goal.returns
 returns c =
     let program = seen c.args.checked.now in
     passes (rw c.in_default.is at c.in_ok-objection.ensures.none)
-    (subst (λ (words : List ℕ). TellsRun program c.args.graph.now.nodes (start program c.args.rows.now words) (shape_of c.args.outline.now) (costs_of c.args.outline.now) (reported c.args.report.now) c.in_ok-told.told)
+    (subst (λ (words : List ℕ). TellsReplayedRun program c.args.graph.now.nodes (start program c.args.rows.now words) (shape_of c.args.outline.now) (costs_of c.args.outline.now) (reported c.args.report.now) c.in_ok-told.told)
     (c.deref.ensures.value ∙ c.in_ok-words.ensures) c.in_ok-told.ensures)

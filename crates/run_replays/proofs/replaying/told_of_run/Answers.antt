@@ -10,7 +10,7 @@ use Rattle.report_soundness.specs.ReportTold.{costs_of, four_recording}
 use Rattle.report_objections.specs.Shaping.{tells_total}
 use Rattle.report_objections.specs.CountLaws.{most_of}
 use Rattle.report_objections.specs.declared.objection.Objection.TheVariants.{NoFact}
-use Rattle.run_replays.specs.Replays.{TellsRun}
+use Rattle.run_replays.specs.Replays.{TellsReplayedRun}
 use Rattle.run_replays.proofs.Held.{passed_low, some_place, told_stop, told_end}
 use Rattle.run_replays.proofs.replaying.told_of_run.Goals as goal
 
@@ -42,7 +42,7 @@ returns-in-Some c =
     let passed = rw c.in-Passed.is at c.in_ok-run.ensures in
     let there : position (λ f. tells_total c.in-Passed.node f) report.facts ≡ Some c.in-Some.place =
     ap (λ (fs : List Fact). position (λ f. tells_total c.in-Passed.node f) fs) (sym c.deref-in-Passed.ensures.value) ∙ sym c.in-Some.ensures in
-    subst (λ (line : ℕ). TellsRun program c.args.graph.now.nodes (start program c.args.rows.now c.args.words.now) (shape_of c.args.outline.now) (costs_of c.args.outline.now) report (Err (NoFact (line + c.in-Some.place))))
+    subst (λ (line : ℕ). TellsReplayedRun program c.args.graph.now.nodes (start program c.args.rows.now c.args.words.now) (shape_of c.args.outline.now) (costs_of c.args.outline.now) report (Err (NoFact (line + c.in-Some.place))))
     (sym c.first_line.ensures.line)
     (told_stop program c.args.graph.now c.args.outline.now (start program c.args.rows.now c.args.words.now) report c.in_ok-visits.visits.items c.requires.outline c.in_ok-visits.ensures.long
     (λ n low. c.in_ok-visits.ensures.most n low ∙ ap (λ (fs : List Fact). most_of n fs) c.deref.ensures.value) c.in-Passed.node c.in-Some.place passed there)

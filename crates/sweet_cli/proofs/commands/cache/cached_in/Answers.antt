@@ -9,7 +9,7 @@ use Rattle.program_files.specs.declared.expanding.Expanded.{Expanded}
 use Rattle.code_layout.specs.Layouts.{all_statements, most_statements}
 use Rattle.cached_runs.specs.Answers.{lines_of}
 use Rattle.cache_analysis.specs.CodeAccesses.{HasCodeNotes}
-use Rattle.cache_analysis.specs.Sound.{IsSound}
+use Rattle.cache_analysis.specs.Sound.{IsSoundCache}
 use Rattle.command_plans.specs.Works.{Judges}
 use Rattle.command_files.specs.declared.scopes.ScopedProgram.{ScopedProgram as ScopedValue}
 use Rattle.command_files.specs.Scopes.{ScopedProgram}
@@ -68,5 +68,5 @@ pub returns-clause-sound : goal.returns-clause-sound
 returns-clause-sound c =
     let rows = c.args.tables.now.rows.items in
     let costs = c.args.tables.now.costs in
-    subst (λ (e : Expanded). IfOk c.explored.result (λ lines. IsSound (seen e.checked) e.graph rows c.args.shape costs (lines_of lines))) c.priced-program.ensures.expanded
-    (subst (λ (p : ScopedValue). IfOk c.explored.result (λ lines. IsSound (seen p.expanded.checked) p.expanded.graph rows c.args.shape costs (lines_of lines))) c.in_ok-noted.ensures c.explored.ensures.sound)
+    subst (λ (e : Expanded). IfOk c.explored.result (λ lines. IsSoundCache (seen e.checked) e.graph rows c.args.shape costs (lines_of lines))) c.priced-program.ensures.expanded
+    (subst (λ (p : ScopedValue). IfOk c.explored.result (λ lines. IsSoundCache (seen p.expanded.checked) p.expanded.graph rows c.args.shape costs (lines_of lines))) c.in_ok-noted.ensures c.explored.ensures.sound)

@@ -3,7 +3,7 @@ use Rattle.std.proofs.Common.{List, Ok, Err, refl, subst}
 use Rattle.alf_check.specs.CheckedPrograms.{seen}
 use Rattle.alf_check.specs.declared.rows.InputRow.{InputRow}
 use Rattle.cached_runs.specs.Answers.{lines_of}
-use Rattle.cache_analysis.specs.Sound.{IsSound}
+use Rattle.cache_analysis.specs.Sound.{IsSoundCache}
 use Rattle.command_plans.specs.Outcome.{Outcome, Unbounded}
 use Rattle.command_plans.specs.Work.{IsOnly}
 use Rattle.command_files.specs.Seen.{scoped_of}
@@ -27,7 +27,7 @@ returns-in-Told-clause-sound c =
     let costs = c.args.tables.now.costs in
     let lines = lines_of c.in-Told.lines in
     let sound = (rw c.in-Told.is at c.in_ok-lines.ensures.sound) costs c.requires.costs in
-    subst (λ (rows : List InputRow). IsSound (seen checked) graph rows c.args.shape costs lines) c.as_slice-rows.ensures.value sound
+    subst (λ (rows : List InputRow). IsSoundCache (seen checked) graph rows c.args.shape costs lines) c.as_slice-rows.ensures.value sound
 
 pub returns-in_ok-line-in-Unbounded-clause-means : goal.returns-in_ok-line-in-Unbounded-clause-means
 returns-in_ok-line-in-Unbounded-clause-means c =

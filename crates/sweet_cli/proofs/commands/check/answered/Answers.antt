@@ -11,7 +11,7 @@ use Rattle.report_objections.specs.Checks.{IsChecked}
 use Rattle.command_plans.specs.Outcome.{No}
 use Rattle.command_plans.specs.Work.{IsOnly}
 use Rattle.command_files.specs.Seen.{scoped_of}
-use Rattle.sweet_cli.specs.Check.{CheckMeans, IsSoundOf}
+use Rattle.sweet_cli.specs.Check.{AcceptMeans, IsAcceptedOf}
 use Rattle.sweet_cli.proofs.JudgedChecks.{accepted_only, refused_only, check_of}
 use Rattle.sweet_cli.proofs.SoundChecks.{shaped_of, sound_of}
 use Rattle.sweet_cli.proofs.commands.check.answered.Goals as goal
@@ -30,7 +30,7 @@ returns-in_ok-text-in-None-clause-means c =
     let none = subst (λ (a : Option Objection). IsChecked stepped_by parts_order (record { checked = checked; graph = graph; rows = rows }) program.outline report a) c.in-None.is c.in_ok-found.ensures.answer in
     let found = check_of checked graph rows c.keeps.ensures c.requires.graph keep costs program.outline report None c.kept.ensures c.requires.outline priced none in
     let only = accepted_only c.a_report_has_one_check.ensures (scoped_of program) rows costs report text found c.in_ok-text-in-None.ensures in
-    subst (λ (l : List InputRow). IsOnly (CheckMeans (scoped_of program) l costs report) (Ok text)) c.as_slice-rows.ensures.value only
+    subst (λ (l : List InputRow). IsOnly (AcceptMeans (scoped_of program) l costs report) (Ok text)) c.as_slice-rows.ensures.value only
 
 pub returns-in_ok-text-in-None-clause-sound : goal.returns-in_ok-text-in-None-clause-sound
 returns-in_ok-text-in-None-clause-sound c =
@@ -44,7 +44,7 @@ returns-in_ok-text-in-None-clause-sound c =
     let parts : StepperParts = record { checked = checked; graph = graph; rows = c.as_slice-rows.result.now } in
     let none = subst (λ (a : Option Objection). IsChecked stepped_by parts_order parts program.outline report a) c.in-None.is c.in_ok-found.ensures.answer in
     let shaped = shaped_of stepped_by parts_order parts program.outline report none in
-    subst (λ (l : List InputRow). IsSoundOf (seen checked) graph l costs report) c.as_slice-rows.ensures.value
+    subst (λ (l : List InputRow). IsAcceptedOf (seen checked) graph l costs report) c.as_slice-rows.ensures.value
     (sound_of checked graph c.as_slice-rows.result.now costs program.outline report c.requires.outline shaped priced sound)
 
 pub returns-in_ok-line-in-Some-clause-means : goal.returns-in_ok-line-in-Some-clause-means
@@ -62,4 +62,4 @@ returns-in_ok-line-in-Some-clause-means c =
     let some = subst (λ (a : Option Objection). IsChecked stepped_by parts_order (record { checked = checked; graph = graph; rows = rows }) program.outline report a) c.in-Some.is c.in_ok-found.ensures.answer in
     let found = check_of checked graph rows c.keeps.ensures c.requires.graph keep costs program.outline report (Some objection) c.kept.ensures c.requires.outline priced some in
     let only = refused_only c.a_report_has_one_check.ensures (scoped_of program) rows costs report objection text found c.in_ok-line-in-Some.ensures in
-    (refl, subst (λ (l : List InputRow). IsOnly (CheckMeans (scoped_of program) l costs report) (Err (record { cause = No; text = text }))) c.as_slice-rows.ensures.value only)
+    (refl, subst (λ (l : List InputRow). IsOnly (AcceptMeans (scoped_of program) l costs report) (Err (record { cause = No; text = text }))) c.as_slice-rows.ensures.value only)

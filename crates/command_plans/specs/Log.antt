@@ -3,9 +3,8 @@
 --   log_of shelf           the log of a shelf
 --   log_with log name      the log, and a read of this name
 --   log_after log names    the log, and reads of these names in their order
---   log_through            reads of some names and then of others are those of both lists
 --   GrewAlike p m q n      from p to m and from q to n the same names were read, in the same order
-use Rattle.std.proofs.Common.{◌≡◌, ℕ, List, [], ◌∷◌, ◌++◌, Option, refl}
+use Rattle.std.specs.Prelude.{◌≡◌, ℕ, List, [], ◌∷◌, Option}
 use Rattle.flow_base.specs.Outside.{next_count}
 use Rattle.flow_base.specs.Shelves.{ShelfState, names_with}
 
@@ -24,11 +23,6 @@ log_with log name = record { reads = next_count log.reads; names = names_with lo
 abbrev pub log_after : Log → List (List ℕ) → Log
 log_after log [] = log
 log_after log (name ∷ names) = log_after (log_with log name) names
-
--- reads of some names and then of others are those of both lists
-pub log_through : (log : Log) (xs ys : List (List ℕ)) → log_after log (xs ++ ys) ≡ log_after (log_after log xs) ys
-log_through log [] ys = refl
-log_through log (x ∷ xs) ys = log_through (log_with log x) xs ys
 
 -- the same names were read, in the same order
 pub record GrewAlike (p m q n : Log) : Type 0 where

@@ -1,13 +1,14 @@
 -- Told files have one answer.
 --   IsOne w    told files have one value, or outcomes that are alike, and one list of names read, but for failed reads
 --   alike      an outcome is like itself
+--   log_through    reads of some names and then of others are those of both lists
 --   read_one, judged_one, done_one, stop_one, then_one   each step is so, and steps that are put together
-use Rattle.std.proofs.Common.{◌≡◌, ◌≤◌, ◌<◌, ℕ, List, [], ◌∷◌, ◌++◌, length, Result, Ok, Err, Option, None, Some, ◌⊎◌, inl, inr, sym, ap, ◌∙◌, subst, arith}
+use Rattle.std.proofs.Common.{◌≡◌, ◌≤◌, ◌<◌, ℕ, List, [], ◌∷◌, ◌++◌, length, Result, Ok, Err, Option, None, Some, ◌⊎◌, inl, inr, refl, sym, ap, ◌∙◌, subst, arith}
 use Rattle.std.specs.Prelude.{IsSomeAnd}
 use Rattle.flow_base.specs.Outside.{Files}
 use Rattle.command_plans.specs.declared.reading.Role.{Role}
 use Rattle.command_plans.specs.Outcome.{Cause, Usage, Source, Example, Unbounded, No, Unread, Outcome, LinesAgree, AreAlike, IsOfFiles, unread_of, refused}
-use Rattle.command_plans.specs.Log.{Log, log_with, log_after, log_through, GrewAlike}
+use Rattle.command_plans.specs.Log.{Log, log_with, log_after, GrewAlike}
 use Rattle.command_plans.specs.Roles.{unread}
 use Rattle.command_plans.specs.Steps.{Steps, read_steps, judged_steps, done_steps, stop_steps, then_steps}
 
@@ -30,6 +31,11 @@ still p m q n e f = record { names = []; first = e; second = f }
 -- one file was read
 one_more : (file : List ℕ) (p m q n : Log) → m ≡ log_with p file → n ≡ log_with q file → GrewAlike p m q n
 one_more file p m q n e f = record { names = file ∷ []; first = e; second = f }
+
+-- reads of some names and then of others are those of both lists
+pub log_through : (log : Log) (xs ys : List (List ℕ)) → log_after log (xs ++ ys) ≡ log_after (log_after log xs) ys
+log_through log [] ys = refl
+log_through log (x ∷ xs) ys = log_through (log_with log x) xs ys
 
 -- the one after the other
 grown : (p m l q n o : Log) → GrewAlike p m q n → GrewAlike m l n o → GrewAlike p l q o

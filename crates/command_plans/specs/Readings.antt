@@ -12,7 +12,8 @@ use Rattle.std.proofs.lemmas.List.Elements.{All-append, All-cons, All-head, All-
 use Rattle.flow_base.specs.Outside.{Files}
 use Rattle.command_plans.specs.declared.reading.Role.{Role}
 use Rattle.command_plans.specs.Outcome.{Outcome, IsOfFiles, unread_of}
-use Rattle.command_plans.specs.Log.{Log, log_with, log_after, log_through}
+use Rattle.command_plans.specs.Log.{Log, log_with, log_after}
+use Rattle.command_plans.specs.OneAnswer.{log_through}
 use Rattle.command_plans.specs.Roles.{unread}
 use Rattle.command_plans.specs.Steps.{Steps, read_steps, judged_steps, done_steps, stop_steps, then_steps}
 

@@ -159,7 +159,7 @@ module _ (one : HasOneOutline) (law : LoneAnalysisIsExact) (agree : LoneBoundsAg
       exactly one law agree given.certified program tables.rows tables.costs (policy_of given.merging) given.turns given.pivots meaning lone (scopes_are given (Some files) before program mid scopes) means
 
   -- after the program and the tables that the files give, whatever the work was given of them
-  MeansJudged : ScopedProgram → Tables → Result Reported Outcome → Type 0
+  abbrev MeansJudged : ScopedProgram → Tables → Result Reported Outcome → Type 0
   MeansJudged p t meaning = ReportMeans given.certified p t.rows t.costs (policy_of given.merging) given.turns given.pivots meaning
 
   same_meaning : (p : ScopedProgram) (t : Tables) (l n : Log) (meaning : Result Reported Outcome)

@@ -29,6 +29,7 @@ use Rattle.command_plans.specs.Readings.{IsMadeOf, both_made, one_made, still_ma
 use Rattle.command_plans.specs.Works.{Works}
 use Rattle.program_files.specs.Told.{IsToldProgram}
 use Rattle.command_files.specs.Values.{values_told, values_in, AreValues}
+use Rattle.command_files.specs.ReportFiles.{IsToldReport}
 use Rattle.command_files.specs.Scopes.{ScopedProgram, scoped_in}
 use Rattle.command_files.specs.Tables.{Tables, tables_in}
 use Rattle.sweet_cli.specs.Words.{ReplayWords}

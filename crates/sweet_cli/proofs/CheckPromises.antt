@@ -90,16 +90,16 @@ tells_sound law given told before mid late end program tables text scopes read o
     both_made told before mid end (file_name given.program ∷ []) (tabled ++ (given.report ∷ [])) (λ files. IsToldProgram given.program given.root files expanded.program) (IsTabledSound given program tables)
     (λ files. IsAccepted given files text) of again
     (λ files program_told (both, held).
-        record {
-          program = expanded.program;
-          graph = expanded.graph;
-          rows = tables.rows;
-          costs = tables.costs;
-          program_told = program_told;
-          graph_is = told_graph given.program given.root told before program mid scopes;
-          rows_told = both.0;
-          rows_keep = inputs_keep law given.inputs files expanded.program tables.rows both.0;
-          costs_told = both.1;
-          shown = shown;
-          sound = held;
-        })
+    record {
+      program = expanded.program;
+      graph = expanded.graph;
+      rows = tables.rows;
+      costs = tables.costs;
+      program_told = program_told;
+      graph_is = told_graph given.program given.root told before program mid scopes;
+      rows_told = both.0;
+      rows_keep = inputs_keep law given.inputs files expanded.program tables.rows both.0;
+      costs_told = both.1;
+      shown = shown;
+      sound = held;
+    })

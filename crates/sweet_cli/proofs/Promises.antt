@@ -144,21 +144,21 @@ prints_sound law given told before mid later program tables report text scopes r
     (AreTabled given.inputs given.costs expanded.program tables) (λ files. IsSoundReport given files text) of
     (tables_made expanded.program given.inputs given.costs told mid tables later read)
     (λ files program_told both.
-        record {
-          program = expanded.program;
-          graph = expanded.graph;
-          rows = tables.rows;
-          costs = tables.costs;
-          report = report;
-          program_told = program_told;
-          graph_is = told_graph given.program given.root told before program mid scopes;
-          rows_told = both.0;
-          rows_keep = inputs_keep law given.inputs files expanded.program tables.rows both.0;
-          costs_told = both.1;
-          shown = spelled;
-          sound = sound.sound;
-          certificate = sound.certificate;
-        })
+    record {
+      program = expanded.program;
+      graph = expanded.graph;
+      rows = tables.rows;
+      costs = tables.costs;
+      report = report;
+      program_told = program_told;
+      graph_is = told_graph given.program given.root told before program mid scopes;
+      rows_told = both.0;
+      rows_keep = inputs_keep law given.inputs files expanded.program tables.rows both.0;
+      costs_told = both.1;
+      shown = spelled;
+      sound = sound.sound;
+      certificate = sound.certificate;
+    })
 
 -- a run that was told is that of the program
 pub tells_run : RowsKeepTheRules → (given : RunWords) (told : Option Files) (before mid later : Log) (program : ScopedProgram) (tables : Tables) (text : List ℕ)
@@ -171,18 +171,18 @@ tells_run law given told before mid later program tables text scopes read of sho
     (AreTabled given.inputs given.costs expanded.program tables) (λ files. TellsRun given files text) of
     (tables_made expanded.program given.inputs given.costs told mid tables later read)
     (λ files program_told both.
-        record {
-          program = expanded.program;
-          graph = expanded.graph;
-          rows = tables.rows;
-          costs = tables.costs;
-          program_told = program_told;
-          graph_is = told_graph given.program given.root told before program mid scopes;
-          rows_told = both.0;
-          rows_keep = inputs_keep law given.inputs files expanded.program tables.rows both.0;
-          costs_told = both.1;
-          shown = shown;
-        })
+    record {
+      program = expanded.program;
+      graph = expanded.graph;
+      rows = tables.rows;
+      costs = tables.costs;
+      program_told = program_told;
+      graph_is = told_graph given.program given.root told before program mid scopes;
+      rows_told = both.0;
+      rows_keep = inputs_keep law given.inputs files expanded.program tables.rows both.0;
+      costs_told = both.1;
+      shown = shown;
+    })
 
 -- a text that a unit was lowered to does what the unit does
 pub lowers_text : (given : LowerWords) (told : Option Files) (before after : Log) (unit : UnitTree) (name : List ℕ) (whole : WholeProgram) (text : List ℕ)

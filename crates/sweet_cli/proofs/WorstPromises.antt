@@ -53,18 +53,18 @@ tells_worst law given told before mid later program tables found text scopes rea
     (AreTabled given.inputs given.costs expanded.program tables) (λ files. TellsWorst given files text) of
     (tables_made expanded.program given.inputs given.costs told mid tables later read)
     (λ files program_told both.
-        record {
-          program = expanded.program;
-          graph = expanded.graph;
-          rows = tables.rows;
-          costs = tables.costs;
-          found = found;
-          program_told = program_told;
-          graph_is = told_graph given.program given.root told before program mid scopes;
-          rows_told = both.0;
-          rows_keep = inputs_keep law given.inputs files expanded.program tables.rows both.0;
-          costs_told = both.1;
-          shown = shown;
-          searched = searched;
-          bounds = bounds;
-        })
+    record {
+      program = expanded.program;
+      graph = expanded.graph;
+      rows = tables.rows;
+      costs = tables.costs;
+      found = found;
+      program_told = program_told;
+      graph_is = told_graph given.program given.root told before program mid scopes;
+      rows_told = both.0;
+      rows_keep = inputs_keep law given.inputs files expanded.program tables.rows both.0;
+      costs_told = both.1;
+      shown = shown;
+      searched = searched;
+      bounds = bounds;
+    })

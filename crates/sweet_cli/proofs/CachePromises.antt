@@ -2,7 +2,7 @@
 --   layout_graph   the graph that was drawn is that of the program
 --   cache_told     the text is that of the order of work
 --   tells_cache    and it keeps the promise
-use Rattle.std.proofs.Common.{◌≡◌, ◌≤◌, ℕ, List, Vec, Global, Ok, Option, Some, refl, sym, ◌∙◌, subst, arith, [], ◌∷◌, ◌++◌}
+use Rattle.std.proofs.Common.{◌≡◌, ◌≤◌, ℕ, List, Vec, Global, Ok, Option, refl, sym, ◌∙◌, subst, arith, [], ◌∷◌, ◌++◌}
 use Rattle.std.specs.Prelude.{option_to_list}
 use Rattle.sweet_cli.specs.Task.{names_read}
 use Rattle.sweet_words.specs.Files.{file_name}

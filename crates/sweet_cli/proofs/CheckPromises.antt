@@ -4,7 +4,7 @@
 --   accepted_shown what is answered then is that it is accepted
 --   checks_told    the text is that of the order of work
 --   tells_sound    and it keeps the promise
-use Rattle.std.proofs.Common.{◌≡◌, ◌≤◌, ℕ, List, Vec, Global, Ok, Option, None, Some, ◌∙◌, subst, arith, [], ◌∷◌, ◌++◌}
+use Rattle.std.proofs.Common.{◌≡◌, ◌≤◌, ℕ, List, Vec, Global, Ok, Option, Some, ◌∙◌, subst, arith, [], ◌∷◌, ◌++◌}
 use Rattle.std.specs.Prelude.{option_to_list}
 use Rattle.sweet_cli.specs.Task.{names_read}
 use Rattle.sweet_words.specs.Files.{file_name}

@@ -1,5 +1,5 @@
 -- What a task set is answered is the only answer; and the promise of response times.
-use Rattle.std.proofs.Common.{◌≡◌, ℕ, List, Result, Ok, Err, Some, Option, slice_get, ap, sym, ◌∙◌, [], ◌∷◌}
+use Rattle.std.proofs.Common.{◌≡◌, ℕ, List, Result, Ok, Err, Option, slice_get, ap, sym, ◌∙◌, [], ◌∷◌}
 use Rattle.std.proofs.lemmas.Option.{same_Some}
 use Rattle.flow_base.specs.Outside.{Files}
 use Rattle.cost_table.specs.declared.task_set.Task.{Task as TimedTask}

@@ -1,6 +1,6 @@
 -- The promise of `migrate`.
 --   tells_migrated   a text that the work gives spells the report of the told file in the second form
-use Rattle.std.proofs.Common.{ℕ, List, Option, Some, sym, subst, ◌∙◌, [], ◌∷◌}
+use Rattle.std.proofs.Common.{ℕ, List, Option, sym, subst, ◌∙◌, [], ◌∷◌}
 use Rattle.flow_base.specs.Outside.{Files}
 use Rattle.fact_text.specs.Language.{SpellsReport}
 use Rattle.fact_text.specs.Laws.{SpelledWhereWritable, ReportTextsSpell}

@@ -1,7 +1,7 @@
 -- What is promised of a text that tells boxes of inputs.
 --   boxes_told     the text is that of the order of work
 --   tells_worst    and it keeps the promise
-use Rattle.std.proofs.Common.{◌≡◌, ◌≤◌, ℕ, List, Vec, Global, Ok, Option, Some, refl, ◌∙◌, subst, arith, [], ◌∷◌, ◌++◌}
+use Rattle.std.proofs.Common.{◌≡◌, ◌≤◌, ℕ, List, Vec, Global, Ok, Option, refl, ◌∙◌, subst, arith, [], ◌∷◌, ◌++◌}
 use Rattle.std.specs.Prelude.{option_to_list}
 use Rattle.sweet_cli.specs.Task.{names_read}
 use Rattle.sweet_words.specs.Files.{file_name}

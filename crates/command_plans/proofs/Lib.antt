@@ -1,3 +1,2 @@
 -- The files of this folder.
 pub mod LineLemmas
-pub mod WorkLemmas

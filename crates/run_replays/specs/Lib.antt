@@ -3,3 +3,4 @@ pub mod Replays
 pub mod OneReplay
 pub mod Walks
 pub mod Tests
+pub mod Worked

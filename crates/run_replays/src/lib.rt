@@ -18,8 +18,10 @@ mod ending;
 mod meeting;
 mod replaying;
 
-// Laws.
+// Laws, and rows worked out by hand.
 mod laws;
+mod worked;
 
 pub use laws::a_replay_tells_one_thing;
 pub use replaying::replay;
+pub use worked::the_first_thing_is_told_of_a_run;

@@ -1,0 +1,5 @@
+-- The files here.
+pub mod Lasts
+pub mod Joined
+pub mod Looks
+pub mod Turns

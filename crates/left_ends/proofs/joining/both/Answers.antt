@@ -20,7 +20,7 @@ pub returns-in_ok-all-in-Some-Some-clause-first : goal.returns-in_ok-all-in-Some
 returns-in_ok-all-in-Some-Some-clause-first c =
     let checked = c.requires.checked in
     let alike = alike_roots checked c.in-Some-Some.first c.in-Some-Some.second
-        (subst (AreEnds checked) c.in-Some-Some.is-0 c.requires.one) (subst (AreEnds checked) c.in-Some-Some.is-1 c.requires.other) in
+    (subst (AreEnds checked) c.in-Some-Some.is-0 c.requires.one) (subst (AreEnds checked) c.in-Some-Some.is-1 c.requires.other) in
     subst (λ (e : Option MemoryParts). StandsForAll e (Some c.in_ok-all-in-Some-Some.all)) (sym c.in-Some-Some.is-0)
     (subst (λ (m : MemoryParts). StandsForAll (Some c.in-Some-Some.first) (Some m)) (sym c.in_ok-all-in-Some-Some.ensures)
     (joined_first c.in-Some-Some.first c.in-Some-Some.second alike))
@@ -29,7 +29,7 @@ pub returns-in_ok-all-in-Some-Some-clause-second : goal.returns-in_ok-all-in-Som
 returns-in_ok-all-in-Some-Some-clause-second c =
     let checked = c.requires.checked in
     let alike = alike_roots checked c.in-Some-Some.first c.in-Some-Some.second
-        (subst (AreEnds checked) c.in-Some-Some.is-0 c.requires.one) (subst (AreEnds checked) c.in-Some-Some.is-1 c.requires.other) in
+    (subst (AreEnds checked) c.in-Some-Some.is-0 c.requires.one) (subst (AreEnds checked) c.in-Some-Some.is-1 c.requires.other) in
     subst (λ (e : Option MemoryParts). StandsForAll e (Some c.in_ok-all-in-Some-Some.all)) (sym c.in-Some-Some.is-1)
     (subst (λ (m : MemoryParts). StandsForAll (Some c.in-Some-Some.second) (Some m)) (sym c.in_ok-all-in-Some-Some.ensures)
     (joined_second c.in-Some-Some.first c.in-Some-Some.second alike))

@@ -8,6 +8,7 @@ import re
 
 NUMBERS = (0, 1, 2, 3, 255, 1 << 31, (1 << 32) - 1, 1 << 32, 1 << 63, (1 << 64) - 1, 1 << 64, 1 << 96, (1 << 127) - 1)
 FACTS = ("loop", "count", "dead", "total", "pair", "alarm")
+NAMES = ('"a".99999999999"b":4', '"a":99999999999', '"a".01"b":0', '"":0', '"a" :0', '"a b":0', '"a".5"b":entry')
 WORDS = ("", "-", "-0", "00", "least", "stopped", "loop", "call", "uninit", "x", '"main":entry')
 
 
@@ -113,6 +114,12 @@ def word(lines: list[str], chance: random.Random) -> list[str]:
     return [*lines[:number], " ".join(words), *lines[number + 1 :]]
 
 
+def a_name(lines: list[str], chance: random.Random) -> list[str]:
+    number = chance.choice(places(lines, "node") or [0])
+    named = " ".join([*lines[number].split(" ")[:4], chance.choice(NAMES)])
+    return [*lines[:number], named, *lines[number + 1 :]]
+
+
 def last_events_left_out(lines: list[str], chance: random.Random) -> list[str]:
     gone = places(lines, "step", "merge")[-chance.randint(1, 4) :]
     return [it for number, it in enumerate(lines) if number not in gone]
@@ -137,7 +144,7 @@ def far_multipliers(lines: list[str], chance: random.Random) -> list[str]:
 
 WAYS = (
     any_number, a_fact, a_fact, a_fact, an_event, a_multiplier, a_multiplier, left_out, doubled, exchanged, other_event,
-    other_event, dead_for_total, word, last_events_left_out, alarm_left_out, far_multipliers,
+    other_event, dead_for_total, word, a_name, last_events_left_out, alarm_left_out, far_multipliers,
 )  # fmt: skip
 
 

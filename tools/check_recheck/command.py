@@ -95,7 +95,8 @@ def damages(case: Case, times: int, room: pathlib.Path, answers: collections.Cou
         given = pathlib.Path(case.options[1]) if is_table else case.file
         file = room / ("damaged.toml" if is_table else "damaged.alf")
         file.write_text(damaged(given.read_text(encoding="ascii"), f"{case.name} {number}"), encoding="ascii")
-        words = [str(case.file), str(report), "--inputs", str(file)] if is_table else [str(file), str(report), *case.options]
+        words = [str(case.file if is_table else file), str(report)]
+        words += ["--inputs", str(file)] if is_table else case.options
         due, status = ran("check", *words)
         line, found = answer(words)
         unread = is_refused(due)

@@ -115,10 +115,8 @@ class Reader:
     def name(self) -> bytes:
         self.space()
         found = NAME.match(self.text, self.at)
-        if not found:
+        if not found or any(int(it) > WORD for it in re.findall(rb"[0-9]+", re.sub(TEXT, b"", found[0]))):
             raise self.fault(self.at)
-        if any(int(it) > WORD for it in re.findall(rb'(?<=[.:])[0-9]+', re.sub(TEXT, b"", found[0]))):
-            raise self.fault(self.at, "61 number")
         self.at = found.end()
         return found[0]
 

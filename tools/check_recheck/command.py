@@ -108,7 +108,7 @@ def damages(case: Case, times: int, room: pathlib.Path, answers: collections.Cou
 
 def run(words: list[str]) -> int:
     parser = argparse.ArgumentParser(prog="check-recheck", description=__doc__)
-    parser.add_argument("--programs", type=int, default=40, metavar="N", help="programs by chance, 40 if not told")
+    parser.add_argument("--programs", type=int, default=25, metavar="N", help="programs by chance, 25 if not told")
     parser.add_argument("--first", type=int, default=0, metavar="SEED", help="the first seed, 0 if not told")
     parser.add_argument("--altered", type=int, default=20, metavar="N", help="altered reports of each, 20 if not told")
     parser.add_argument("--damaged", type=int, default=3, metavar="N", help="damaged programs of each, 3 if not told")

@@ -115,7 +115,8 @@ class Reader:
     def name(self) -> bytes:
         self.space()
         found = NAME.match(self.text, self.at)
-        if not found or any(int(it) > WORD for it in re.findall(rb"[0-9]+", re.sub(TEXT, b"", found[0]))):
+        blocks = re.findall(rb"[0-9]+", re.sub(TEXT, b"", found[0])) if found else []
+        if not found or any(len(it) > 10 or int(it) > WORD for it in blocks):
             raise self.fault(self.at)
         self.at = found.end()
         return found[0]

@@ -36,6 +36,7 @@ class Rewritten:
             self.source, found = source.text, list(source.reasons)
             self.program = Program(parsed(self.source, str(given)), str(given))
             self.made = self.program.written()
+            found = source.against(self.program.needed.functions)
             found += [outside(*it) for it in self.program.reasons]
             self.notes = {it.what for it in source.notes} | {what for _, _, what in self.program.notes}
         except Refusal as it:

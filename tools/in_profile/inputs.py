@@ -5,9 +5,9 @@ import dataclasses
 
 from .types import Whole
 
-HEAD = """# What a run of {root} may begin with: each global of the program that is not const, and each parameter of {root} that
-# is a number. Each row has the whole range of a type and is to be narrowed by hand, or struck out: a global without a
-# row has the value that the program gives it.
+HEAD = """# What a run of {root} may begin with: each global of the program that is not const, and each parameter of it
+# that is a number. Each row has the whole range of a type and is to be narrowed by hand, or struck out: a global without
+# a row has the value that the program gives it.
 """
 ROW = """
 # {place}
@@ -31,8 +31,9 @@ class Cells:
 
     def row(self) -> str:
         kind = self.kind
-        low, high = -(1 << (kind.bits - 1)) if kind.signed else 0, (1 << (kind.bits - kind.signed)) - 1
-        found = ROW.format(frame=self.frame, place=self.place, size=kind.bits, low=low, high=1 if kind.is_truth else high)
+        low = -(1 << (kind.bits - 1)) if kind.signed else 0
+        high = 1 if kind.is_truth else (1 << (kind.bits - kind.signed)) - 1
+        found = ROW.format(frame=self.frame, place=self.place, size=kind.bits, low=low, high=high)
         return found + (f"count = {self.count}\n" if self.count > 1 else "")
 
 

@@ -14,7 +14,7 @@ int f(int x) { return x ? f(x - 1) : 0; }
 int g(int x);
 int h(int x) { return g(x); }
 int g(int x) { return h(x); }
-int main(void) { return f(3); }
+int main(void) { return f(3) + h(4); }
 
 // 4: a call of malloc, which has no definition here; 5: a call of memset, which has no definition here; 6: a call of printf, which has no definition here
 #include <stdlib.h>

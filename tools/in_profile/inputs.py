@@ -6,8 +6,8 @@ import dataclasses
 from .types import Whole
 
 HEAD = """# What a run of {root} may begin with: each global of the program that is not const, and each parameter of it
-# that is a number. Each row has the whole range of a type and is to be narrowed by hand, or struck out: a global without
-# a row has the value that the program gives it.
+# that is a number. Each row has the whole range of a type and is to be narrowed by hand, or struck out: a global
+# without a row has the value that the program gives it.
 """
 ROW = """
 # {place}

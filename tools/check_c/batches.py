@@ -79,7 +79,7 @@ def compared(rewritten, room):
             frames = [(f"{key}_{frame[column]}", frame[2]) for frame in it.frames()]
             text += prefixed(source, f"{key}_") + tail(key, f"{key}_main", kind, frames)
     made = pathlib.Path(room, "batch")
-    fault = built(text, keys, made)
+    fault = built([text], keys, made)
     if fault and len(rewritten) > 1:
         half = len(rewritten) // 2
         return compared(rewritten[:half], room) + compared(rewritten[half:], room)

@@ -53,6 +53,12 @@ def sums(number: int) -> str:
     return "\n".join([*rows, f"int main(void) {{ return A{number}; }}", ""])
 
 
+def chain(number: int) -> str:
+    """So many functions, each of which calls the one before."""
+    rows = ["void f0(void) { }", *(f"void f{i}(void) {{ f{i - 1}(); }}" for i in range(1, number))]
+    return "\n".join([*rows, f"int main(void) {{ f{number - 1}(); return 3; }}", ""])
+
+
 def refused(name: str, text: str | bytes, says: str) -> Case:
     return Case(name, {"in.c": text}, ["in.c", "-o", "out.c"], 1, says)
 
@@ -75,7 +81,7 @@ REFUSED = [
     refused("a file that ends early", "int main(void) {\n return 1;\n", "is not read as C99: in.c:"),
     refused("a bracket too many", "int main(void) {\n return 1; } }\n", "is not read as C99: in.c:2"),
     refused("an escape that a string follows", 'int main(void) {\n return sizeof "\\x1" "2"; }', f"in.c:2: {OUTSIDE}"),
-    refused("257 functions", "".join(f"int f{i}(void) {{ return 1; }}\n" for i in range(257)) + PLAIN,
+    refused("257 functions", chain(257),
             f"in.c:257: {OUTSIDE} more than 256 functions: 258"),
     refused("what is too long for sweet", "int x; int main(void) {" + "{" * 28 + "\nx++;" * 8500 + "}" * 29,
             "out.c is not written: it would have"),

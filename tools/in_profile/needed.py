@@ -14,12 +14,16 @@ TOLD = 6
 
 @dataclasses.dataclass(frozen=True)
 class Needed:
-    """The tree of what is needed, in its order, and the names of functions, objects and types that were left out."""
+    """The tree of what is needed, in its order, the functions that were left out, and names of objects and types."""
 
     tree: c_ast.FileAST
-    functions: list[str]
+    definitions: list[c_ast.FuncDef]
     objects: list[str]
     types: list[str]
+
+    @property
+    def functions(self) -> list[str]:
+        return [it.decl.name for it in self.definitions]
 
     def told(self, root: str) -> str:
         """A line of what was left out, or nothing."""
@@ -90,11 +94,11 @@ def needed(tree: c_ast.FileAST, root: str) -> Needed:
 def left_out(kept: list[c_ast.Node], left: list[c_ast.Node], place: tuple[str, int] | None) -> Needed:
     """Sorts what was left out; types are told of the file that the root stands in alone."""
     own = [it for it in left if place and (place_of(it) or place)[0] == place[0]]
-    functions = [it.decl.name for it in left if isinstance(it, c_ast.FuncDef)]
+    functions = [it for it in left if isinstance(it, c_ast.FuncDef)]
     objects = [it.name for it in left if isinstance(it, c_ast.Decl) and is_object(it)]
     types = [it.name for it in own if isinstance(it, c_ast.Typedef)]
     types += [it.type.name for it in own if isinstance(it, c_ast.Decl) and isinstance(it.type, TAGGED) and it.type.name]
-    return Needed(c_ast.FileAST(kept), *(list(dict.fromkeys(it)) for it in (functions, objects, types)))
+    return Needed(c_ast.FileAST(kept), functions, *(list(dict.fromkeys(it)) for it in (objects, types)))
 
 
 def is_object(node: c_ast.Decl) -> bool:

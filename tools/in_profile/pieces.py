@@ -50,9 +50,10 @@ def escaped(name: str) -> bytes:
 class Names:
     """Names of files as they are told: no two files have one. Those in certain folders stand as these are told."""
 
-    def __init__(self, folders: collections.abc.Iterable[tuple[str, str]] = ()) -> None:
+    def __init__(self, folders: collections.abc.Iterable[tuple[str, str]] = (),
+                 told: dict[str, str] | None = None) -> None:
         self.folders = list(folders)
-        self.told: dict[str, str] = {}
+        self.told = {} if told is None else told
 
     def of(self, name: str) -> str:
         inside = [it for it in self.folders if name.startswith(it[0])]

@@ -35,15 +35,16 @@ class Surroundings:
                 raise Refusal(f"there is no folder {shown(it)}")
 
 
-def preprocessed(name: str, data: bytes, around: Surroundings = Surroundings()) -> Text:
+def preprocessed(name: str, data: bytes, around: Surroundings = Surroundings(), told: dict | None = None) -> Text:
     """The text of a file with these bytes after the preprocessor, with lines that tell where each piece comes from.
 
     The name is told to the preprocessor in a line of the text: among its words it could be taken for an option, also
-    behind its folder, since the compiler is called by its last part.
+    behind its folder, since the compiler is called by its last part. Names of files as they are told already stand in
+    `told`.
     """
     if not shutil.which("cc"):
         raise lacking("the preprocessor `cc -E`", "gcc")
-    names = Names(folders_of(name, around))
+    names = Names(folders_of(name, around), told)
     given = b'# 1 "%s"\n%s' % (escaped(name), data.removeprefix(codecs.BOM_UTF8))
     with room() as folder:
         for header, text in HEADERS.items():
@@ -57,7 +58,7 @@ def preprocessed(name: str, data: bytes, around: Surroundings = Surroundings()) 
     if len(ran.out) > MOST:
         raise Refusal(at_end(text, name, names, f"the text after the preprocessor has more than {MOST:,} bytes"))
     if ran.status:
-        raise Refusal(f"the preprocessor refuses {shown(name)}:\n{names.shortened(told(ran.err))}")
+        raise Refusal(f"the preprocessor refuses {shown(name)}:\n{names.shortened(complaint(ran.err))}")
     return marked(text, name, names)
 
 
@@ -84,7 +85,7 @@ def at_end(text: str, name: str, names: Names, what: str) -> Told:
     return Told(last.file, last.line, what) if last else Told(shown(name), 0, what)
 
 
-def told(err: bytes) -> str:
+def complaint(err: bytes) -> str:
     """What a compiler says, without the ways of files to one another, and without bytes that a terminal would obey."""
     lines = [it for it in err.decode("utf-8", "replace").splitlines() if it and not CAME.match(it)]
     return "\n".join("".join(it if it.isprintable() else "_" for it in line) for line in lines)[:MOST_TOLD]

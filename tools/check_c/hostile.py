@@ -104,7 +104,7 @@ FILES = [
 ]
 ROW = "[[input]]\nframe = '{}'\noffset = {}\nsize = {}\nlow = 0\nhigh = 1\n"
 RANGES = [
-    Case(f"ranges: {text[:40]!r}", {"in.c": "int x; " + PLAIN, "r": text},
+    Case(f"ranges: {text[:40]!r}", {"in.c": "int x; int main(void) { return x; }\n", "r": text},
          ["in.c", "-o", "out.c", "--inputs", "r", "--try"], 1, says)
     for text, says in (
         (b"\xff", "r is no file of ranges: "), ("input = 1", "r is no file of ranges: "),

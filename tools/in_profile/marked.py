@@ -8,6 +8,7 @@ import re
 from .meanings import against_attribute, against_pragma
 from .pieces import Names, Piece, pieces
 from .refusal import Refusal, Told, outside
+from .typeless import typeless
 
 # Brackets in one another, and characters of a line: one release of the parser looks through the line at each token.
 DEEPEST, LONGEST = 256, 4000
@@ -101,6 +102,7 @@ class Marked:
                     self.against(it, why, True)
                 self.strike(it.start, it.end)
         self.break_lines()
+        self.edits += [(it, it, "int ") for it in typeless(self.code, self.closing)]
         at = 0
         while at < len(self.code):
             at = self.step(at)

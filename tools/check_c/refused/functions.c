@@ -33,9 +33,6 @@ int main(void) { return f(1, 2)
 // 1: elsewhere, which has no definition here
 extern int elsewhere; int main(void) { return elsewhere; }
 
-// 1: a parameter without a type
-int f(a, b) int a; { return a; } int main(void) { return f(1, 2); }
-
 // 1: a value of what gives none; 2: a value of what gives none
 void f(void) { } int main(void) { int x = f();
   return f() + 1; }

@@ -61,6 +61,7 @@ def predefined() -> dict[str, str]:
 SPELLINGS = {
     "__extension__": "", "__inline": "", "__inline__": "", "inline": "", "__restrict": "", "__restrict__": "",
     "restrict": "", "_Noreturn": "", "__signed": "signed", "__signed__": "signed", "__const": "const",
+    **{f"__builtin_{it}": it for it in ("strlen", "strcmp", "strncmp", "strcpy", "strncpy", "abs", "labs")},
     "__const__": "const", "__volatile": "volatile", "__volatile__": "volatile", "__builtin_expect(x,y)": "((long)(x))"}
 DEFINED = [f"-D{name}={text}" for name, text in {**predefined(), **SPELLINGS}.items()]
 

@@ -45,3 +45,8 @@ int x;
 extern int y; int y;
 static int f(void) { return 1; }
 int g(void) { return f(); }
+
+// 2: a value of what gives none; 3: a pointer of another type
+char a[4]; unsigned char b[4]; int main(void) {
+  char *p = strcpy(a, "x"); int x = 1;
+  x += strlen(b); return x + *p; }

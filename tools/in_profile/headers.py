@@ -34,7 +34,8 @@ def whole_types() -> dict[str, tuple[int, bool]]:
 
 
 def predefined() -> dict[str, str]:
-    """What gcc has before any header that speaks of sizes and ranges, but nothing of itself and of a machine."""
+    """What gcc has before any header that speaks of sizes and ranges, as `__INT_MAX__`, but nothing of itself, as
+    `__GNUC__`, and of a machine."""
     found = {"__CHAR_BIT__": "8"}
     for name, (bits, signed) in whole_types().items():
         found[f"__{name}_TYPE__"] = "long int" if name == "WCHAR" else word(bits, signed)

@@ -1,6 +1,6 @@
 """Texts of small functions of the library, put in where they are called and no file defines them.
 
-They have other names in OUT.c: a compiler may make a call of the library's own function of such a loop.
+They have other names in OUT.c, as `sw_strlen`: a compiler may make a call of the library's own function of such a loop.
 """
 
 import functools

@@ -11,7 +11,7 @@ import tempfile
 import time
 
 TOP = pathlib.Path(__file__).resolve().parent.parent.parent
-SECONDS = 120
+SECONDS, LEAVING = 120, 5
 PLAIN = "int main(void) { return 3; }\n"
 NAMES = ("@w.c", "-x.c", "-", "--root=f", "a b.c", 'a"b\\c\nd.c', "$(touch ran).c", "; touch ran #.c", "a'b.c",
          "größe.c", "b\udcff.c", "w.s", "w.o", "w", "*.c", "%s%n.c", "a=b.c", "sub/@w.c", "sub/-x.c", "@sub/w.c",
@@ -205,8 +205,12 @@ def stopped(number: signal.Signals, room: pathlib.Path) -> str:
         said = begun.communicate(timeout=SECONDS)[1].decode()
         if begun.returncode != 128 + number or said != f"sweet-c: ended by {number.name}\n":
             return f"status {begun.returncode}: {said}"
+        # One that was ended may wait for the processor to go; one that goes on waits for the pipe for ever.
+        end = time.monotonic() + LEAVING
+        while working(temporary) and time.monotonic() < end:
+            time.sleep(0.05)
         late = working(temporary)
-        return f"a child goes on: {late}" if late else left(pathlib.Path(temporary))
+        return f"a child goes on: {late[:200]}" if late else left(pathlib.Path(temporary))
 
 
 def stopped_trial(room: pathlib.Path) -> str:

@@ -55,7 +55,8 @@ def with_library(tree: c_ast.FileAST) -> c_ast.FileAST:
 
 def texts(names: list[str]) -> str:
     """The same functions for a compiler, as C has them, each before a file that calls it."""
-    found = [line for text in TEXTS.values() for line in parted(text) if any(re.match(rf".*?\b{it}\(", line) for it in names)]
+    lines = [line for text in TEXTS.values() for line in parted(text)]
+    found = [line for line in lines if any(re.search(rf"\b{it}\(", line) for it in names)]
     return "".join(f"static {it}\n" for it in found)
 
 

@@ -102,7 +102,7 @@ class Marked:
                     self.against(it, why, True)
                 self.strike(it.start, it.end)
         self.break_lines()
-        self.edits += [(it, it, "int ") for it in typeless(self.code, self.closing)]
+        self.edits += [(it, it, "int ") for it in typeless(self.code, self.closing, C99)]
         at = 0
         while at < len(self.code):
             at = self.step(at)

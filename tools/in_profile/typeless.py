@@ -7,8 +7,8 @@ TAGGED = {"struct", "union", "enum"}
 # What stands behind the name that is declared.
 BEHIND = {"(", "=", ";", ",", "["}
 # Words that stand before a bracket, and what may begin the declaration of a parameter behind a head.
-NAMELESS = {"if", "while", "for", "switch", "return", "sizeof", "_Static_assert", "__attribute__", "__attribute",
-            "asm", "__asm", "__asm__", "_Alignas", "typeof", "__typeof__"}
+NAMELESS = {"_Static_assert", "__attribute__", "__attribute", "asm", "__asm", "__asm__", "_Alignas", "typeof",
+            "__typeof__"}
 
 
 def types_named(code: list[Piece]) -> set[str]:
@@ -20,10 +20,10 @@ def types_named(code: list[Piece]) -> set[str]:
     return found
 
 
-def typeless(code: list[Piece], closing: dict[int, int]) -> list[int]:
-    """The places of names before which a type is lacking."""
+def typeless(code: list[Piece], closing: dict[int, int], words: frozenset[str]) -> list[int]:
+    """The places of names before which a type is lacking; words of C are none of them."""
     opening = {last: first for first, last in closing.items()}
-    types, depth, found = types_named(code), 0, []
+    others, depth, found = types_named(code) | NAMELESS | words, 0, []
     for at, it in enumerate(code):
         depth += (it.text in ("(", "{")) - (it.text in (")", "}"))
         if it.kind != "name" or not begins(code, opening, at):
@@ -31,7 +31,7 @@ def typeless(code: list[Piece], closing: dict[int, int]) -> list[int]:
         name = at
         while name < len(code) and code[name].text in STORED:
             name += 1
-        is_name = name + 1 < len(code) and code[name].kind == "name" and code[name].text not in types | NAMELESS
+        is_name = name + 1 < len(code) and code[name].kind == "name" and code[name].text not in others
         if not is_name:
             continue
         behind = code[name + 1].text

@@ -13,3 +13,5 @@ int h(a, b, c) short c; int *b; { return a + *b + c; } k() { static n; n += 2; r
 typedef short word; static struct s { int v; } const table; static word (x); static last = 3; const most = 9; word w(a) word a; { register b = a; const c = 3; word *const p = &a; auto d = 1; return b + c + *p + d; } main() { return w(9) + last + x + most; }
 
 int f(a, b) char b; { return a + b; } int main(void) { return f(70000, 300); }
+
+static const x[] = {1, 2}; static int (*const none)(void); static unsigned (u); const struct p { int v; } *far(void); static f(a) register a; { return a; } extern int h(const int); int h(y) const y; { static const z = 2; { register q = y; return q + z; } } struct p static inside; int main(void) { for (;;) { const one = 1; return f(x[1]) + h(3) + one + u; } }

@@ -3,6 +3,7 @@
 import pathlib
 import re
 
+from in_profile.library import texts
 from in_profile.marked import marked
 from in_profile.parser import parsed
 from in_profile.preprocessor import preprocessed
@@ -36,6 +37,8 @@ class Rewritten:
             self.source, found = source.text, list(source.reasons)
             self.program = Program(parsed(self.source, str(given)), str(given))
             self.made = self.program.written()
+            self.source = texts(self.program.library) + self.source
+            found = source.against(self.program.needed.functions)
             found += [outside(*it) for it in self.program.reasons]
             self.notes = {it.what for it in source.notes} | {what for _, _, what in self.program.notes}
         except Refusal as it:
@@ -78,7 +81,7 @@ def compared(rewritten, room):
             frames = [(f"{key}_{frame[column]}", frame[2]) for frame in it.frames()]
             text += prefixed(source, f"{key}_") + tail(key, f"{key}_main", kind, frames)
     made = pathlib.Path(room, "batch")
-    fault = built(text, keys, made)
+    fault = built([text], keys, made)
     if fault and len(rewritten) > 1:
         half = len(rewritten) // 2
         return compared(rewritten[:half], room) + compared(rewritten[half:], room)

@@ -11,7 +11,7 @@ import tempfile
 import time
 
 TOP = pathlib.Path(__file__).resolve().parent.parent.parent
-SECONDS = 120
+SECONDS, LEAVING = 120, 5
 PLAIN = "int main(void) { return 3; }\n"
 NAMES = ("@w.c", "-x.c", "-", "--root=f", "a b.c", 'a"b\\c\nd.c', "$(touch ran).c", "; touch ran #.c", "a'b.c",
          "größe.c", "b\udcff.c", "w.s", "w.o", "w", "*.c", "%s%n.c", "a=b.c", "sub/@w.c", "sub/-x.c", "@sub/w.c",
@@ -53,6 +53,12 @@ def sums(number: int) -> str:
     return "\n".join([*rows, f"int main(void) {{ return A{number}; }}", ""])
 
 
+def chain(number: int) -> str:
+    """So many functions, each of which calls the one before."""
+    rows = ["void f0(void) { }", *(f"void f{i}(void) {{ f{i - 1}(); }}" for i in range(1, number))]
+    return "\n".join([*rows, f"int main(void) {{ f{number - 1}(); return 3; }}", ""])
+
+
 def refused(name: str, text: str | bytes, says: str) -> Case:
     return Case(name, {"in.c": text}, ["in.c", "-o", "out.c"], 1, says)
 
@@ -75,7 +81,7 @@ REFUSED = [
     refused("a file that ends early", "int main(void) {\n return 1;\n", "is not read as C99: in.c:"),
     refused("a bracket too many", "int main(void) {\n return 1; } }\n", "is not read as C99: in.c:2"),
     refused("an escape that a string follows", 'int main(void) {\n return sizeof "\\x1" "2"; }', f"in.c:2: {OUTSIDE}"),
-    refused("257 functions", "".join(f"int f{i}(void) {{ return 1; }}\n" for i in range(257)) + PLAIN,
+    refused("257 functions", chain(257),
             f"in.c:257: {OUTSIDE} more than 256 functions: 258"),
     refused("what is too long for sweet", "int x; int main(void) {" + "{" * 28 + "\nx++;" * 8500 + "}" * 29,
             "out.c is not written: it would have"),
@@ -98,7 +104,7 @@ FILES = [
 ]
 ROW = "[[input]]\nframe = '{}'\noffset = {}\nsize = {}\nlow = 0\nhigh = 1\n"
 RANGES = [
-    Case(f"ranges: {text[:40]!r}", {"in.c": "int x; " + PLAIN, "r": text},
+    Case(f"ranges: {text[:40]!r}", {"in.c": "int x; int main(void) { return x; }\n", "r": text},
          ["in.c", "-o", "out.c", "--inputs", "r", "--try"], 1, says)
     for text, says in (
         (b"\xff", "r is no file of ranges: "), ("input = 1", "r is no file of ranges: "),
@@ -199,8 +205,12 @@ def stopped(number: signal.Signals, room: pathlib.Path) -> str:
         said = begun.communicate(timeout=SECONDS)[1].decode()
         if begun.returncode != 128 + number or said != f"sweet-c: ended by {number.name}\n":
             return f"status {begun.returncode}: {said}"
+        # One that was ended may wait for the processor to go; one that goes on waits for the pipe for ever.
+        end = time.monotonic() + LEAVING
+        while working(temporary) and time.monotonic() < end:
+            time.sleep(0.05)
         late = working(temporary)
-        return f"a child goes on: {late}" if late else left(pathlib.Path(temporary))
+        return f"a child goes on: {late[:200]}" if late else left(pathlib.Path(temporary))
 
 
 def stopped_trial(room: pathlib.Path) -> str:

@@ -23,8 +23,8 @@ def identity_of(it: os.stat_result) -> Identity:
     return it.st_dev, it.st_ino
 
 
-def reason(error: OSError) -> str:
-    return error.strerror or type(error).__name__
+def reason(error: OSError | ValueError) -> str:
+    return getattr(error, "strerror", None) or type(error).__name__
 
 
 def read(name: str, is_any: bool = False) -> Given:
@@ -66,6 +66,27 @@ def write(name: str, data: bytes, kept: dict[Identity, str]) -> None:
                 raise Refusal(f"{shown(name)} is not written: it is {shown(kept[identity_of(found)])}, which was read")
             write_whole(file, data, stat.S_ISREG(found.st_mode))
     except OSError as error:
+        raise Refusal(f"{shown(name)} is not written: {reason(error)}") from None
+
+
+def hold_new(name: str) -> None:
+    """Sees that there is no file of a name, as `write_new` does, before anything else is written."""
+    if os.path.lexists(name):
+        raise Refusal(f"{shown(name)} is not written: there is a file of that name")
+
+
+def write_new(name: str, data: bytes) -> None:
+    """Writes a file that is not there yet. Where that fails none is there."""
+    try:
+        with open(os.open(name, os.O_WRONLY | os.O_CREAT | os.O_EXCL | os.O_CLOEXEC, 0o666), "wb", buffering=0) as file:
+            try:
+                write_whole(file, data, False)
+            except BaseException:
+                os.unlink(name)
+                raise
+    except FileExistsError:
+        raise Refusal(f"{shown(name)} is not written: there is a file of that name") from None
+    except (OSError, ValueError) as error:
         raise Refusal(f"{shown(name)} is not written: {reason(error)}") from None
 
 

@@ -1,5 +1,6 @@
 """What is struck out of a text after the preprocessor, and what is said against it: attributes, `#pragma`, assembly."""
 
+import bisect
 import dataclasses
 import os
 import re
@@ -7,6 +8,7 @@ import re
 from .meanings import against_attribute, against_pragma
 from .pieces import Names, Piece, pieces
 from .refusal import Refusal, Told, outside
+from .typeless import typeless
 
 # Brackets in one another, and characters of a line: one release of the parser looks through the line at each token.
 DEEPEST, LONGEST = 256, 4000
@@ -19,18 +21,28 @@ WORDS = {"__thread": "an object of each thread", "_Thread_local": "an object of 
 ASSEMBLY, ATTRIBUTE = ("asm", "__asm", "__asm__"), ("__attribute", "__attribute__")
 BESIDE_ASSEMBLY = ("volatile", "__volatile", "__volatile__", "goto", "inline", "__inline", "__inline__")
 JOINED = re.compile(r'\\(?:x[0-9a-fA-F]+|[0-7]{1,2})"$')
+NO_FUNCTIONS = C99 | {*WORDS, *ASSEMBLY, *ATTRIBUTE, "_Alignas", "_Static_assert", "typeof", "__typeof__"}
+# Of an attribute that changes this it does not matter whether somebody calls the function.
+RUNS = "which changes what runs"
 HEADS = ("if", "while", "for", "switch")
 
 
 @dataclasses.dataclass(frozen=True)
 class Text:
-    """A text as the parser reads it, the names of its files as they are told, and what was said on the way."""
+    """A text as the parser reads it, the names of its files as they are told, and what was said on the way.
+
+    Each reason has the functions in whose definitions it stands, and an empty name where it is one of the whole file.
+    """
 
     text: str
     files: dict[str, str]
     renamed: dict[str, str]
-    reasons: list[Told]
+    reasons: dict[Told, set[str]]
     notes: list[Told]
+
+    def against(self, left_out: list[str]) -> list[Told]:
+        """The reasons against the program, where these functions are left out of it."""
+        return [it for it, functions in self.reasons.items() if functions - set(left_out)]
 
     def name(self, given: str) -> str:
         """The name that one of the file has in the text."""
@@ -45,11 +57,12 @@ class Marked:
         self.text, self.names = text, names
         self.pieces = list(pieces(text, self.names, file))
         self.edits: list[tuple[int, int, str]] = []
-        self.reasons: dict[Told, None] = {}
+        self.reasons: dict[Told, set[str]] = {}
         self.notes: list[Told] = []
         self.renamed: dict[str, str] = {}
         self.code = [it for it in self.pieces if it.kind not in ("place", "pragma")]
         self.closing, self.opening = self.brackets()
+        self.definitions = definitions(self.code, self.closing)
         self.taken = {it.text for it in self.code if it.kind == "name"}
 
     def brackets(self) -> tuple[dict[int, int], dict[int, int]]:
@@ -64,8 +77,11 @@ class Marked:
                 closing[open_.pop()] = i
         return closing, {last: first for first, last in closing.items()}
 
-    def against(self, it: Piece, why: str) -> None:
-        self.reasons[outside(it.file, it.line, why)] = None
+    def against(self, it: Piece, why: str, is_of_all: bool = False) -> None:
+        at = bisect.bisect(self.definitions, (it.start, len(self.text), "")) - 1
+        is_inside = at >= 0 and it.start < self.definitions[at][1] and not is_of_all
+        owner = self.definitions[at][2] if is_inside else ""
+        self.reasons.setdefault(outside(it.file, it.line, why), set()).add(owner)
 
     def strike(self, start: int, end: int) -> None:
         """Takes a part of the text out; its line feeds stay, and so do the lines that tell places."""
@@ -83,13 +99,14 @@ class Marked:
             elif it.kind == "pragma":
                 why = against_pragma(it.text)
                 if why:
-                    self.against(it, why)
+                    self.against(it, why, True)
                 self.strike(it.start, it.end)
         self.break_lines()
+        self.edits += [(it, it, "int ") for it in typeless(self.code, self.closing, C99)]
         at = 0
         while at < len(self.code):
             at = self.step(at)
-        return Text(self.edited(), self.names.told, self.renamed, list(self.reasons), self.notes)
+        return Text(self.edited(), self.names.told, self.renamed, self.reasons, self.notes)
 
     def break_lines(self) -> None:
         """Goes on in a further line, which counts as the same, where one is long."""
@@ -153,7 +170,7 @@ class Marked:
             if it.kind == "name":
                 why = against_attribute(it.text)
                 if why:
-                    self.against(it, why)
+                    self.against(it, why, why.endswith(RUNS))
                 k = self.closing.get(k + 1, k) + 1
             elif self.is_sign(k, ","):
                 k += 1
@@ -211,6 +228,25 @@ class Marked:
             found = f"{name[:20]}_{number}"
         self.taken.add(found)
         return found
+
+
+def definitions(code: list[Piece], closing: dict[int, int]) -> list[tuple[int, int, str]]:
+    """Where each function is defined, and its name, as far as that is plain: with a list of parameters, which types
+    stand in, and a body behind it."""
+    found: list[tuple[int, int, str]] = []
+    start, at, name = 0, 0, ""
+    while at < len(code):
+        it, after = code[at], closing.get(at, at) + 1
+        if it.text == "(" and not name and at and code[at - 1].kind == "name" and code[at - 1].text not in NO_FUNCTIONS:
+            name = code[at - 1].text
+        is_body = it.text == "{" and name and code[at - 1].text == ")"
+        if is_body and at in closing:
+            found.append((code[start].start, code[after - 1].end, name))
+        # A body behind the declarations of an old head begins a piece of its own, whose function is not told.
+        if it.text == ";" or is_body or (it.text == "{" and at == start):
+            start, name = after, ""
+        at = after
+    return found
 
 
 def same(name: str) -> str:

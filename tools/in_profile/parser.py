@@ -1,9 +1,11 @@
 """The tree of a text: `pycparser` reads it, and whatever it refuses has a line."""
 
+import dataclasses
 import re
 import sys
 
 from .ending import room
+from .marked import Text
 from .refusal import Refusal, outside
 
 # Levels of a tree, and frames of Python that are enough for the work on most that have so many.
@@ -11,6 +13,15 @@ DEEPEST, FRAMES = 500, 8000
 TOO_DEEP = f"expressions and statements nested deeper than {DEEPEST}"
 # Parts of a tree that are statements or declarations.
 STATEMENTS = re.compile(r"ext|block_items|stmt|iftrue|iffalse|decl|body|next|init")
+
+
+@dataclasses.dataclass(frozen=True)
+class Unit:
+    """A file: its name as it is told, its text after the preprocessor, and the tree of that."""
+
+    name: str
+    text: Text
+    tree: object
 
 
 def lacking(what: str, package: str) -> Refusal:

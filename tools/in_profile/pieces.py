@@ -48,21 +48,30 @@ def escaped(name: str) -> bytes:
 
 
 class Names:
-    """Names of files as they are told: no two files have one. Those in the folder of IN.c stand as if it were named."""
+    """Names of files as they are told: no two files have one. Those in certain folders stand as these are told."""
 
-    def __init__(self, folder: str = "", told_folder: str = "") -> None:
-        self.folder, self.told_folder = folder, told_folder
-        self.told: dict[str, str] = {}
+    def __init__(self, folders: collections.abc.Iterable[tuple[str, str]] = (),
+                 told: dict[str, str] | None = None) -> None:
+        self.folders = list(folders)
+        self.told = {} if told is None else told
 
     def of(self, name: str) -> str:
-        if self.folder and name.startswith(self.folder):
-            name = self.told_folder + name[len(self.folder) :]
+        inside = [it for it in self.folders if name.startswith(it[0])]
+        if inside:
+            folder, told = max(inside, key=lambda it: len(it[0]))
+            name = told + name[len(folder) :]
         if name not in self.told:
             it = shown(name)
             while it in self.told.values():
                 it += "_"
             self.told[name] = it
         return self.told[name]
+
+    def shortened(self, text: str) -> str:
+        """A text with the folders as they are told."""
+        for folder, told in sorted(self.folders, key=lambda it: -len(it[0])):
+            text = text.replace(folder, told)
+        return text
 
 
 def pieces(text: str, names: Names, file: str) -> collections.abc.Iterator[Piece]:

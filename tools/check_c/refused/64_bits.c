@@ -10,7 +10,7 @@ int main(void) {
 // 2: 64 bits; 3: 64 bits
 #include <stdint.h>
 int64_t a;
-int main(void) { uint64_t b = 3; return b; }
+int main(void) { uint64_t b = 3; return b + a; }
 
 // 1: 64 bits; 2: 64 bits
 int main(void) { int x = -2147483648;

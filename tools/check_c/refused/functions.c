@@ -14,7 +14,7 @@ int f(int x) { return x ? f(x - 1) : 0; }
 int g(int x);
 int h(int x) { return g(x); }
 int g(int x) { return h(x); }
-int main(void) { return f(3); }
+int main(void) { return f(3) + h(4); }
 
 // 4: a call of malloc, which has no definition here; 5: a call of memset, which has no definition here; 6: a call of printf, which has no definition here
 #include <stdlib.h>
@@ -33,9 +33,6 @@ int main(void) { return f(1, 2)
 // 1: elsewhere, which has no definition here
 extern int elsewhere; int main(void) { return elsewhere; }
 
-// 1: a parameter without a type
-int f(a, b) int a; { return a; } int main(void) { return f(1, 2); }
-
 // 1: a value of what gives none; 2: a value of what gives none
 void f(void) { } int main(void) { int x = f();
   return f() + 1; }
@@ -48,3 +45,8 @@ int x;
 extern int y; int y;
 static int f(void) { return 1; }
 int g(void) { return f(); }
+
+// 2: a value of what gives none; 3: a pointer of another type
+char a[4]; unsigned char b[4]; int main(void) {
+  char *p = strcpy(a, "x"); int x = 1;
+  x += strlen(b); return x + *p; }

@@ -144,4 +144,4 @@ int f(int x) { return x; } int main(void) { int s = 0;
 int a[] = {[99999998] = 1};
 int b[2001][1000000] = {[2000] = {1}};
 int c[1000000][1000000];
-int main(void) { int d[300000000] = {1}; return d[0]; }
+int main(void) { int d[300000000] = {1}; return d[0] + a[0] + b[0][0] + c[0][0]; }

@@ -4,7 +4,7 @@
 int main(void) { double x = 1.0;
   goto out;
   long long y;
-  out: return x; }
+  out: return x + f(0); }
 int f(struct s *p, ...) {
   return p->x + 2.5
     * (long long)3; }

@@ -8,7 +8,7 @@ int main(void) { int *p = &x;
 
 // 1: a function that gives a pointer; 1: a pointer to void
 void *p; int *f(void) { return 0; }
-int main(void) { return 0; }
+int main(void) { return *f() + (p == 0); }
 
 // 1: an array of pointers
 int main(void) { int *a[3]; int x;

@@ -115,7 +115,7 @@ def fix(view: View, printed: str, inputs: str | None) -> None:
     """Finds what the report takes as fixed."""
     try:
         view.fixed = fixed_in(printed, None if inputs is None else text_of(inputs))
-    except (Unreadable, *SURPRISES):
+    except (Differs, Unreadable, *SURPRISES):
         view.notes.append("What the report takes as fixed in memory could not be found out.")
 
 

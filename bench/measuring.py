@@ -16,12 +16,14 @@ from program import TOP
 NAME = "sweet_bench"
 KEPT = TOP / "bench" / NAME
 DATA = KEPT / "data"
-SECONDS = 120
+# For what proves nothing, and for proofs.
+SECONDS, PROVING = 120, 6 * 3600
 
 
 def git(*words: str) -> str:
     """What git says, at the top of the repository."""
-    return subprocess.run(["git", "-C", TOP, *words], stdout=subprocess.PIPE, text=True, check=True).stdout.strip()
+    ran = subprocess.run(["git", "-C", TOP, *words], stdout=subprocess.PIPE, text=True, check=True, timeout=SECONDS)
+    return ran.stdout.strip()
 
 
 def work_tree() -> pathlib.Path:
@@ -54,7 +56,7 @@ def measuring() -> pathlib.Path:
     """The program, proved and built where a source is new; its stored run has to give what is stored."""
     tree = work_tree()
     made = put_sources(tree) / "out" / NAME
-    subprocess.run([tree / "tools" / "prove", NAME], cwd=tree, stdin=subprocess.DEVNULL, check=True)
+    subprocess.run([tree / "tools" / "prove", NAME], cwd=tree, stdin=subprocess.DEVNULL, check=True, timeout=PROVING)
     words = (KEPT / "args").read_text(encoding="utf-8").split()
     wrote = subprocess.run([made, *words], cwd=DATA, stdout=subprocess.PIPE, check=True, timeout=SECONDS).stdout
     if wrote != (KEPT / "stdout").read_bytes():

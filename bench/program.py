@@ -12,6 +12,8 @@ TOP = pathlib.Path(__file__).resolve().parent.parent
 CRATES = TOP / "crates"
 # By a run of these words, in its folder, a program is built.
 SHORT_RUNS = {"sweet": ("analyse", "data/a.alf")}
+# For proofs of a program and of all below it.
+PROVING = 6 * 3600
 
 
 def crates():
@@ -42,7 +44,9 @@ def built(name):
     sources = [TOP / "crates.txt", *(it for part in ("src", "specs", "proofs") for it in CRATES.glob(f"*/{part}/**/*"))]
     if not made.exists() or made.stat().st_mtime < max(it.stat().st_mtime for it in sources):
         words = ["rt", "run", "--", *SHORT_RUNS[name]]
-        subprocess.run(words, cwd=CRATES / name, stdin=subprocess.DEVNULL, stdout=subprocess.DEVNULL, check=True)
+        subprocess.run(
+            words, cwd=CRATES / name, stdin=subprocess.DEVNULL, stdout=subprocess.DEVNULL, check=True, timeout=PROVING
+        )
     return made
 
 
